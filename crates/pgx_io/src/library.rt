@@ -1,0 +1,45 @@
+//! A library of files by name.
+ghost use Rattle.std.specs.Prelude.{◌≡◌, ℕ};
+ghost use Rattle.pgx_io.specs.Files.{Files, Finds, KeepsFiles, GetsWithCause};
+
+use column_types::{List, NoMemory};
+use std::alloc::Global;
+use thiserror::Error;
+
+/// Why a look-up gave no answer.
+#[derive(Clone, Copy, Debug, PartialEq, Eq, Error)]
+pub enum GetFault {
+    /// The library failed, and its count of faults rose in this call.
+    #[error("the library failed")]
+    Failed,
+    #[error("out of memory")]
+    NoMemory,
+}
+
+impl From<NoMemory> for GetFault {
+    ghost use Rattle.pgx_io.specs.declared.library.GetFault.TheVariants.{NoMemory};
+
+    ghost from_gives = { λ _ e. e ≡ NoMemory };
+
+    fn from(_error: NoMemory) -> GetFault {
+        GetFault::NoMemory
+    }
+}
+
+/// Files by name.
+pub trait Library {
+    ghost use Rattle.std.specs.Prelude.{Option};
+
+    /// The map from names to the bytes of files, where the library tells it.
+    ghost files: { Self → Option Files };
+
+    /// How often the library has failed.
+    ghost faults: { Self → ℕ };
+
+    /// The bytes of a file, or none exactly where no file has the name. No call changes the map, and one that failed was
+    /// counted.
+    fn get(&mut self, alloc: Global, name: &str) -> Result<Option<List<u8>>, GetFault>
+        ensures found { Finds (files self.old) name.now result }
+        ensures same { KeepsFiles (files self.old) (files self.new) }
+        ensures cause { GetsWithCause (faults self.old) (faults self.new) result };
+}
