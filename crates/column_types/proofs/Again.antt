@@ -1,5 +1,5 @@
 -- What is printed of a value reads as it.
-use Rattle.std.proofs.Common.{◌≡◌, ◌∙◌, refl, ap, ℕ, ◌<◌, ◌^◌, List, [], ◌∷◌, length, Option, Some, ℤ, Bool, true, false, arith, w32, w64, FitsSigned}
+use Rattle.std.proofs.Common.{◌≡◌, ◌∙◌, refl, ap, ℕ, ◌<◌, ◌^◌, List, [], ◌∷◌, length, Some, ℤ, Bool, true, false, arith, w32, w64}
 use Rattle.std.specs.Prelude.{option_map}
 use Rattle.std.specs.Fmt.{signed_decimal}
 use mir.Val.{SFits}
@@ -8,11 +8,10 @@ use Rattle.jiff_core.specs.declared.civil.date.Date.{Date as CivilDate}
 use Rattle.jiff_core.specs.Date.{epoch_day}
 use Rattle.column_types.specs.declared.kind.Kind.{Kind}
 use Rattle.column_types.specs.declared.kind.Kind.TheVariants as kind
-use Rattle.column_types.specs.declared.value.Value.{Value}
 use Rattle.column_types.specs.declared.value.Value.TheVariants.{Integer, Long, Boolean, Date}
 use Rattle.column_types.specs.Reading.{filled_value, read_value}
 use Rattle.column_types.specs.Printing.{printed}
-use Rattle.column_types.specs.Date.{is_day, date_of, date_text}
+use Rattle.column_types.specs.Date.{is_day}
 use Rattle.column_types.proofs.Whole.{whole_of-signed_decimal, signed_decimal_filled}
 use Rattle.column_types.proofs.Civil.{date_of-date_text}
 

@@ -1,16 +1,16 @@
 -- The parts of a day number are those of the calendar's date, and a printed day reads as itself.
-use Rattle.std.proofs.Common.{◌≡◌, ◌∙◌, sym, refl, ap, ℕ, zero, suc, ◌+◌, ◌-◌, ◌*◌, ◌<◌, ◌≤◌, Bool, true, false, cond, ℤ, pos, negsuc, neg_ℤ, ◌+ℤ◌, ◌≤ℤ◌, ◌≢◌, arith, rules, ⊎_elim}
+use Rattle.std.proofs.Common.{◌≡◌, ◌∙◌, sym, refl, ap, ℕ, zero, suc, ◌+◌, ◌-◌, ◌*◌, ◌<◌, ◌≤◌, Bool, true, false, cond, ℤ, pos, negsuc, ◌+ℤ◌, ◌≤ℤ◌, ◌≢◌, arith, ⊎_elim}
 use Rattle.std.proofs.lemmas.Bool.{cases_eq}
 use Rattle.std.specs.Prelude.{◌==◌, nat_lt, unsigned_abs}
 use Rattle.std.proofs.lemmas.Bool.{eqb-true, eqb-false}
 use Rattle.std.proofs.lemmas.Bool.Decides.{nat_tests}
 use Rattle.jiff_core.specs.declared.civil.date.Date.{Date}
-use Rattle.jiff_core.specs.Calendar.{days_from_civil, day_count, days_of_years, days_of_months, days_in_month, IsYear, IsBetween}
+use Rattle.jiff_core.specs.Calendar.{days_from_civil, days_in_month, IsYear, IsBetween}
 use Rattle.jiff_core.specs.Date.{epoch_day}
 use Rattle.jiff_core.proofs.SignedLemmas.{signed_arith}
 use Rattle.jiff_core.proofs.DateLemmas.{epoch_day_injective, epoch_day_range, days_from_civil-day, days_from_civil-next_month, days_from_civil-next_year, days_from_civil-max}
 use Rattle.jiff_core.proofs.CalendarLemmas.{days_in_month_bounds}
-use Rattle.column_types.specs.Date.{Civil, civil_after, civil_of, spelled, two}
+use Rattle.column_types.specs.Date.{Civil, civil_after, civil_of, spelled}
 use Rattle.std.proofs.Common.{◌/◌, ◌%◌, Some, Ok}
 use Rattle.column_types.specs.Date.{two_of, date_of, day_of, is_day, date_text}
 use Rattle.column_types.proofs.Days.{day_is, first_day, within_days}
@@ -76,7 +76,6 @@ civil-is (suc fuel) y m n d h hy h1 h12 e =
     (λ ge. parts-cond d (m == 12) _ _
     (λ last. december fuel y m n d h hy (eqb-true m 12 last) (le-of n (days_in_month (pos y) m) ge) e (civil-is fuel (y + 1) 1 (n - 31) d))
     (λ more. inner fuel y m n d h h1 h12 (eqb-false m 12 more) (le-of n (days_in_month (pos y) m) ge) e (civil-is fuel y (m + 1) (n - days_in_month (pos y) m) d (inner-room fuel y m n h (le-of n (days_in_month (pos y) m) ge)) hy)))
-
 
 abs-of : (z : ℤ) → pos 0 ≤ℤ z → pos (unsigned_abs z) ≡ z
 abs-of (pos n) h = refl

@@ -1,5 +1,5 @@
 -- Items with a flag each.
-use Rattle.std.proofs.Common.{◌≡◌, ℕ, zero, suc, ◌<◌, Bool, true, false, List, [], ◌∷◌, ◌++◌, Option, Some, None, length, get_or, slice_get, if◌then◌else◌, refl, ap, sym, ◌∙◌, arith}
+use Rattle.std.proofs.Common.{◌≡◌, ℕ, zero, suc, ◌<◌, Bool, true, false, List, [], ◌∷◌, ◌++◌, Some, None, length, get_or, slice_get, if◌then◌else◌, refl, ap, sym, ◌∙◌, arith}
 use Rattle.column_types.specs.Nullable.{entries}
 
 pub length-entries : {T : Type 0} (bs : List Bool) (xs : List T) → length bs ≡ length xs → length (entries bs xs) ≡ length xs

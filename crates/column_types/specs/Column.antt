@@ -1,5 +1,5 @@
 -- What a column is seen as.
-use Rattle.std.specs.Prelude.{ℕ, ◌^◌, ◌<◌, IsTrue, List, length, map, Option, Some, None}
+use Rattle.std.specs.Prelude.{◌^◌, ◌<◌, IsTrue, List, length, map, Option, Some, None}
 use Rattle.std.specs.List.{list_all}
 use Rattle.column_types.specs.declared.kind.Kind.{Kind}
 use Rattle.column_types.specs.declared.kind.Kind.TheVariants as kind

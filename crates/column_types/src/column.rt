@@ -122,7 +122,9 @@ impl Column {
             Cells::Integers(items) => items.get(row).map_or(Cell::Null, |n| Cell::Integer(*n)),
             Cells::Longs(items) => items.get(row).map_or(Cell::Null, |n| Cell::Long(*n)),
             Cells::Booleans(items) => items.get(row).map_or(Cell::Null, |b| Cell::Boolean(*b)),
-            Cells::Texts(items) => items.get(row).map_or(Cell::Null, |t| Cell::Text(t.as_str())),
+            Cells::Texts(items) => items
+                .get(row)
+                .map_or(Cell::Null, |t| Cell::Text(t.as_str())),
             Cells::Dates(items) => items.get(row).map_or(Cell::Null, |d| Cell::Date(*d)),
         }
     }
@@ -173,11 +175,7 @@ impl ColumnBuilder {
     }
 
     /// Appends one value, for one step. After an error the value is dropped and the column is as before.
-    pub fn push<L: Ledger>(
-        &mut self,
-        value: Value,
-        steps: &mut Steps<L>,
-    ) -> Result<(), NoMemory>
+    pub fn push<L: Ledger>(&mut self, value: Value, steps: &mut Steps<L>) -> Result<(), NoMemory>
         requires kind { IsTrue (fits_kind self.old.kind value) }
         requires room { length self.old.values < 4294967295 }
         ensures kind { self.new.kind ≡ self.old.kind }

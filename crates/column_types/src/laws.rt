@@ -11,20 +11,17 @@ use crate::{Kind, Value, date};
 /// What is printed of an INTEGER reads as it.
 pub fn integer_reads_back(n: i32)
     ensures { read_value Kind.Integer (printed (Value.Integer n)) ≡ Some (Value.Integer n) }
-{
-}
+{}
 
 /// What is printed of a LONG reads as it.
 pub fn long_reads_back(n: i64)
     ensures { read_value Kind.Long (printed (Value.Long n)) ≡ Some (Value.Long n) }
-{
-}
+{}
 
 /// What is printed of a BOOLEAN reads as it.
 pub fn boolean_reads_back(b: bool)
     ensures { read_value Kind.Boolean (printed (Value.Boolean b)) ≡ Some (Value.Boolean b) }
-{
-}
+{}
 
 /// What is printed of a day reads as it.
 pub fn date_reads_back(day: i32)
@@ -39,5 +36,4 @@ pub fn date_reads_back(day: i32)
 /// round, what is below a lower value is below, and values of one rank compare alike with every other.
 pub fn values_are_totally_ordered()
     ensures { IsTotalOrder value_order }
-{
-}
+{}

@@ -17,7 +17,11 @@ fn texts_read_as_values(rt: HostRuntime) {
         (Kind::Integer, "2147483647", Value::Integer(2147483647)),
         (Kind::Integer, "-2147483648", Value::Integer(-2147483648)),
         (Kind::Integer, "+007", Value::Integer(7)),
-        (Kind::Long, "-9223372036854775808", Value::Long(-9223372036854775808)),
+        (
+            Kind::Long,
+            "-9223372036854775808",
+            Value::Long(-9223372036854775808),
+        ),
         (Kind::Long, "-0", Value::Long(0)),
         (Kind::Boolean, "TrUe", Value::Boolean(true)),
         (Kind::Boolean, "FALSE", Value::Boolean(false)),
@@ -47,7 +51,11 @@ fn texts_read_as_values(rt: HostRuntime) {
         (Kind::Date, "10000-01-01"),
     ];
     for (kind, text) in bad {
-        assert_eq!(rt; parse_value(rt.alloc(), kind, text), Err(FieldFault::BadField), "{text}");
+        assert_eq!(rt;
+            parse_value(rt.alloc(), kind, text),
+            Err(FieldFault::BadField),
+            "{text}"
+        );
     }
 }
 
@@ -74,14 +82,21 @@ fn values_have_their_texts(rt: HostRuntime) -> Result<(), Fail> {
         (Cell::Boolean(true), "true"),
         (Cell::Boolean(false), "false"),
         (Cell::Text(""), "''"),
-        (Cell::Text("it's a\\b\r\n\u{e4}"), "'it''s a\\\\b\\r\\n\u{e4}'"),
+        (
+            Cell::Text("it's a\\b\r\n\u{e4}"),
+            "'it''s a\\\\b\\r\\n\u{e4}'",
+        ),
     ];
     for (cell, want) in printed {
         let mut out = Text::from_str(rt.alloc(), "|")?;
         print_plain(rt.alloc(), cell, &mut out)?;
         assert_eq!(rt; out.as_str().strip_prefix("|"), Some(want));
     }
-    for (day, want) in [(19782, "2024-02-29"), (-719528, "0000-01-01"), (2932896, "9999-12-31")] {
+    for (day, want) in [
+        (19782, "2024-02-29"),
+        (-719528, "0000-01-01"),
+        (2932896, "9999-12-31"),
+    ] {
         let mut out = Text::new(rt.alloc());
         assert!(rt; Kind::Date.fits(Cell::Date(day)));
         value_text(rt.alloc(), Cell::Date(day), &mut out)?;
@@ -117,7 +132,10 @@ fn values_have_their_order(rt: HostRuntime) {
             assert_eq!(rt; compare_values(*a, *b), i.cmp(&j), "{i} and {j}");
         }
     }
-    assert_eq!(rt; compare_values(Cell::Integer(7), Cell::Long(7)), Ordering::Equal);
+    assert_eq!(rt;
+        compare_values(Cell::Integer(7), Cell::Long(7)),
+        Ordering::Equal
+    );
 }
 
 #[test]

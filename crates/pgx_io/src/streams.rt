@@ -24,10 +24,7 @@ impl<R: Read> StdinSource<R> {
     pub fn new(inner: R) -> StdinSource<R>
         ensures { result ≡ 0 }
     {
-        StdinSource {
-            inner,
-            failures: 0,
-        }
+        StdinSource { inner, failures: 0 }
     }
 }
 
@@ -66,10 +63,7 @@ impl<W: Write> StdoutSink<W> {
     pub fn new(inner: W) -> StdoutSink<W>
         ensures { result ≡ 0 }
     {
-        StdoutSink {
-            inner,
-            failures: 0,
-        }
+        StdoutSink { inner, failures: 0 }
     }
 }
 

@@ -18,11 +18,17 @@ fn calls(alloc: Global, numbers: &[u32]) -> Result<List<u32>, NoMemory> {
 fn sources_are_read_to_their_end(rt: HostRuntime) -> Result<(), Fail> {
     let alloc = rt.alloc();
     let mut sure = SureSource::new(bytes(alloc, "one two")?, 3);
-    assert_eq!(rt; read_all(alloc, &mut sure)?.as_slice(), "one two".as_bytes());
+    assert_eq!(rt;
+        read_all(alloc, &mut sure)?.as_slice(),
+        "one two".as_bytes()
+    );
     assert_eq!(rt; read_all(alloc, &mut sure)?.len(), 0);
 
     let mut failing = MemSource::new(bytes(alloc, "one two")?, 3, calls(alloc, &[3])?);
-    assert_eq!(rt; read_all(alloc, &mut failing).err(), Some(ReadAllFault::Failed));
+    assert_eq!(rt;
+        read_all(alloc, &mut failing).err(),
+        Some(ReadAllFault::Failed)
+    );
     assert_eq!(rt; read_all(alloc, &mut failing)?.as_slice(), "o".as_bytes());
     Ok(())
 }
@@ -84,9 +90,15 @@ fn real_files_are_read(rt: HostRuntime) -> Result<(), Fail> {
     assert_eq!(rt; library.get(alloc, "/tmp").err(), Some(GetFault::Failed));
 
     let mut source = StdinSource::new(fs::open(&rt, name)?);
-    assert_eq!(rt; read_all(alloc, &mut source)?.as_slice(), "one two".as_bytes());
+    assert_eq!(rt;
+        read_all(alloc, &mut source)?.as_slice(),
+        "one two".as_bytes()
+    );
     let mut folder = StdinSource::new(fs::open(&rt, "/tmp")?);
-    assert_eq!(rt; read_all(alloc, &mut folder).err(), Some(ReadAllFault::Failed));
+    assert_eq!(rt;
+        read_all(alloc, &mut folder).err(),
+        Some(ReadAllFault::Failed)
+    );
     fs::remove_file(&rt, name)?;
     Ok(())
 }
@@ -94,7 +106,10 @@ fn real_files_are_read(rt: HostRuntime) -> Result<(), Fail> {
 #[test]
 fn real_streams_are_written(rt: HostRuntime) -> Result<(), Fail> {
     let mut output = StdoutSink::new(io::writer(&rt));
-    assert_eq!(rt; write_all(&mut output, "written by a test\n".as_bytes()), Ok(()));
+    assert_eq!(rt;
+        write_all(&mut output, "written by a test\n".as_bytes()),
+        Ok(())
+    );
     let mut full = StdoutSink::new(fs::create(&rt, "/dev/full")?);
     assert_eq!(rt; write_all(&mut full, "x".as_bytes()), Err(Failed));
     Ok(())

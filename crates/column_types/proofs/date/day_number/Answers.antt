@@ -1,10 +1,7 @@
-use Rattle.std.proofs.Common.{rules, ◌≡◌, ◌^◌, ◌<◌, ℕ, w8, w16, w32, w64, ℤ, pos, ◌≤ℤ◌, FitsSigned, to_z, of_z, Some, Ok, ap, ◌∙◌, arith, refl}
+use Rattle.std.proofs.Common.{rules, ◌≡◌, w8, w16, w32, pos, ◌≤ℤ◌, FitsSigned, to_z, arith}
 use Rattle.jiff_core.proofs.SignedLemmas.{signed_arith}
 use Rattle.std.proofs.lemmas.Int.{ints, to_z-of_z}
-use Rattle.std.specs.Prelude.{IsOk, IfOk}
-use Rattle.column_types.specs.Date.{day_of}
 use Rattle.column_types.proofs.Days.{day_at, is_day-epoch_day}
-use Rattle.jiff_core.specs.Date.{epoch_day}
 use Rattle.column_types.proofs.date.day_number.Goals as goal
 
 pub returns-in-Ok-clause-value : goal.returns-in-Ok-clause-value

@@ -1,4 +1,4 @@
-use Rattle.std.proofs.Common.{arith, ◌<◌, length}
+use Rattle.std.proofs.Common.{◌<◌, length}
 use Rattle.column_types.specs.Nullable.{entries}
 use Rattle.column_types.proofs.Entries.{entries_null, entries_item}
 use Rattle.column_types.proofs.nullable.Nullable.get.Goals as goal
