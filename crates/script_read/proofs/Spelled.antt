@@ -1,0 +1,300 @@
+-- The lines of a script that is read are those that its parts spell.
+use Rattle.std.proofs.Common.{◌≡◌, ◌∙◌, sym, refl, ap, ℕ, ℤ, ◌+◌, List, [], ◌∷◌, ◌++◌, map, length, Bool, true, false, if◌then◌else◌, Result, Ok, Err}
+use Rattle.std.specs.Prelude.{◌==◌, not, nat_le, IfOk, codes, ⊤}
+use Rattle.std.specs.List.{flat_map}
+use Rattle.std.specs.Str.{is_utf8}
+use Rattle.std.proofs.lemmas.List.{map-append, append_assoc, append-nil}
+use Rattle.std.proofs.lemmas.Grind.{flat_map-append}
+use Rattle.script_read.specs.declared.fault.LineWhy.TheVariants as why
+use Rattle.script_read.specs.declared.fault.ScriptFault.{ScriptFault}
+use Rattle.script_read.specs.declared.reading.Place.{Place}
+use Rattle.script_read.specs.declared.reading.Place.TheVariants as place
+use Rattle.script_read.specs.declared.reading.Reading.{Reading}
+use Rattle.script_read.specs.declared.script.Block.{Block}
+use Rattle.script_read.specs.declared.script.Command.{Command}
+use Rattle.script_read.specs.declared.script.Script.{Script}
+use Rattle.script_read.specs.declared.script.SourceForm.TheVariants.{Inline}
+use Rattle.script_read.specs.declared.script.SourceText.{SourceText}
+use Rattle.script_read.specs.Commands.{form_of, command_of}
+use Rattle.script_read.specs.Lines.{lines_of, cleaned, is_passed, line_step}
+use Rattle.script_read.specs.Meaning.{vertex_text, edge_text, actor_text, record_lines, source_lines, phase_lines, script_lines, kept_lines}
+use Rattle.script_read.specs.Places.{has_source, source_line, vertex_line, edge_line, end_line, phase_line, actor_line, command_line, line_in}
+use Rattle.script_read.specs.Script.{opening, phases_at, ended, lines_read, script_of, ReadsScript}
+use Rattle.script_read.specs.Words.{same, word_at, word_count, name, key}
+use Rattle.script_read.proofs.Inversions.{err_ok, carried, passed, either, first, named, both, one_spelled, two_spelled, three_spelled, four_spelled, same_is, at_line_ok}
+use Rattle.script_read.proofs.Numbers.{key_spelled}
+use Rattle.script_read.proofs.Kept.{AtPlace, IsReading, keeps, opens_well}
+
+-- ---- one line each
+
+command_line_is : (line : List ℕ) (c : Command) → command_of line ≡ Ok c → c.line ≡ line
+unfolding command_of
+command_line_is line c h =
+    let a = first (form_of line) _ c h in
+    carried (λ (x : Command). x.line ≡ line) (record { line = line; form = a.0 }) c a.2 refl
+
+after_word : (line word : List ℕ) (text : List ℕ) → same (word_at line 0) word ≡ true → line ≡ word_at line 0 ++ text → line ≡ word ++ text
+after_word line word text w e = e ∙ ap (λ (x : List ℕ). x ++ text) (same_is (word_at line 0) word w)
+
+source_text_is : (line source : List ℕ) → same (word_at line 0) (codes "source") ≡ true → (word_count line == 3) ≡ true → same (word_at line 2) (codes "inline") ≡ true → word_at line 1 ≡ source
+    → line ≡ codes "source " ++ (source ++ codes " inline")
+source_text_is line source w n f s =
+    after_word line (codes "source") _ w (three_spelled line n) ∙ (rw (same_is (word_at line 2) (codes "inline") f, s) refl)
+
+vertex_text_is : (line : List ℕ) (k : ℤ) → same (word_at line 0) (codes "v") ≡ true → not (word_count line == 2) ≡ false → key (word_at line 1) ≡ Ok k → line ≡ vertex_text k
+vertex_text_is line k w n h =
+    after_word line (codes "v") _ w (two_spelled line n) ∙ ap (λ (x : List ℕ). codes "v" ++ (32 ∷ x)) (key_spelled (word_at line 1) k h)
+
+edge_text_is : (line : List ℕ) (k from to : ℤ) → same (word_at line 0) (codes "e") ≡ true → not (word_count line == 4) ≡ false
+    → key (word_at line 1) ≡ Ok k → key (word_at line 2) ≡ Ok from → key (word_at line 3) ≡ Ok to → line ≡ edge_text (k, from, to)
+edge_text_is line k from to w n h g i =
+    after_word line (codes "e") _ w (four_spelled line n)
+    ∙ (rw (key_spelled (word_at line 1) k h, key_spelled (word_at line 2) from g, key_spelled (word_at line 3) to i) refl)
+
+actor_text_is : (line actor : List ℕ) → same (word_at line 0) (codes "actor") ≡ true → not (word_count line == 2) ≡ false → word_at line 1 ≡ actor → line ≡ actor_text actor
+actor_text_is line actor w n e =
+    after_word line (codes "actor") _ w (two_spelled line n) ∙ ap (λ (x : List ℕ). codes "actor" ++ (32 ∷ x)) e
+
+word_is : (line word : List ℕ) → same (word_at line 0) word ≡ true → not (word_count line == 1) ≡ false → line ≡ word
+word_is line word w n = one_spelled line n ∙ same_is (word_at line 0) word w
+
+-- ---- what is read so far
+
+-- the lines of the phase that is open
+abbrev open_phase : List (List ℕ) → List Command → List (List ℕ)
+open_phase actors commands = codes "phase" ∷ (map actor_text actors ++ map (λ (c : Command). c.line) commands)
+
+abbrev told_at : Place → Reading → List (List ℕ)
+told_at place.Start s = flat_map source_lines s.sources
+told_at place.Vertices s = flat_map source_lines s.sources ++ record_lines s.source.name s.source.vertices s.source.edges
+told_at place.Edges s = flat_map source_lines s.sources ++ record_lines s.source.name s.source.vertices s.source.edges
+told_at place.Phase s = flat_map source_lines s.sources ++ open_phase [] []
+told_at place.Actor s = flat_map source_lines s.sources ++ open_phase s.actors s.commands
+
+-- what is still empty
+abbrev ClearAt : Place → Reading → Type 0
+ClearAt place.Start s = s.commands ≡ []
+ClearAt place.Vertices s = (s.commands ≡ []) × (s.source.edges ≡ [])
+ClearAt place.Edges s = s.commands ≡ []
+ClearAt place.Phase s = s.commands ≡ []
+ClearAt place.Actor s = ⊤
+
+record Telling (s : Reading) (told : List (List ℕ)) : Type 0 where
+  tells : told_at s.place s ≡ told
+  clear : ClearAt s.place s
+
+-- one more line behind what is told
+more : (a x told : List (List ℕ)) (l m : List ℕ) → a ++ x ≡ told → m ≡ l → a ++ (x ++ l ∷ []) ≡ told ++ m ∷ []
+more a x told l m h e = rw e (sym (append_assoc a x (l ∷ [])) ∙ ap (λ (z : List (List ℕ)). z ++ l ∷ []) h)
+
+tells_source : (s t : Reading) (line : List ℕ) (told : List (List ℕ)) → told_at place.Start s ≡ told → ClearAt place.Start s
+    → same (word_at line 0) (codes "source") ≡ true → source_line s line ≡ Ok t → Telling t (told ++ line ∷ [])
+unfolding source_line
+tells_source s t line told h clear w e =
+    let a = passed _ why.Form _ t e in
+    let f = both _ _ a.0 in
+    let b = first (name (word_at line 1)) _ t a.1 in
+    let n = named _ _ b.1 in
+    let c = passed (has_source s.sources b.0) why.Twice _ t b.2 in
+    let d = passed (nat_le 1 (length s.sources)) why.Many _ t c.1 in
+    carried (λ (x : Reading). Telling x (told ++ line ∷ [])) (record s { place = place.Vertices; source = record { name = b.0; vertices = []; edges = [] } }) t d.1
+    (record { tells = rw (h, ← source_text_is line b.0 w f.0 f.1 n.0) refl; clear = (clear, refl) })
+
+opened_vertex : (n : List ℕ) (vs : List ℤ) (k : ℤ) → record_lines n (vs ++ k ∷ []) [] ≡ record_lines n vs [] ++ vertex_text k ∷ []
+opened_vertex n vs k =
+    ap (λ (z : List (List ℕ)). (codes "source " ++ (n ++ codes " inline")) ∷ z)
+    (append-nil (map vertex_text (vs ++ k ∷ [])) ∙ (map-append vertex_text vs (k ∷ []) ∙ ap (λ (z : List (List ℕ)). z ++ vertex_text k ∷ []) (sym (append-nil (map vertex_text vs)))))
+
+opened_edge : (n : List ℕ) (vs : List ℤ) (es : List (ℤ × ℤ × ℤ)) (e : ℤ × ℤ × ℤ) → record_lines n vs (es ++ e ∷ []) ≡ record_lines n vs es ++ edge_text e ∷ []
+opened_edge n vs es e =
+    ap (λ (z : List (List ℕ)). (codes "source " ++ (n ++ codes " inline")) ∷ z)
+    (ap (λ (z : List (List ℕ)). map vertex_text vs ++ z) (map-append edge_text es (e ∷ [])) ∙ sym (append_assoc (map vertex_text vs) (map edge_text es) (edge_text e ∷ [])))
+
+told_vertex : (a : List (List ℕ)) (n : List ℕ) (vs : List ℤ) (es : List (ℤ × ℤ × ℤ)) (k : ℤ) (told : List (List ℕ)) (line : List ℕ)
+    → es ≡ [] → a ++ record_lines n vs es ≡ told → line ≡ vertex_text k → a ++ record_lines n (vs ++ k ∷ []) es ≡ told ++ line ∷ []
+told_vertex a n vs es k told line none h e =
+    rw (none, opened_vertex n vs k) (more a (record_lines n vs []) told (vertex_text k) line (rw none at h) e)
+
+told_same : (p q : Place) (s : Reading) (told : List (List ℕ)) → p ≡ q → told_at q s ≡ told → told_at p s ≡ told
+told_same p q s told e h = rw e h
+
+clear_same : (p q : Place) (s : Reading) → p ≡ q → ClearAt q s → ClearAt p s
+clear_same p q s e h = rw e h
+
+tells_by : (p : Place) (s : Reading) (told : List (List ℕ)) → s.place ≡ p → told_at p s ≡ told → ClearAt p s → Telling s told
+tells_by p s told at h clear = record { tells = told_same s.place p s told at h; clear = clear_same s.place p s at clear }
+
+tells_vertex : (s t : Reading) (line : List ℕ) (told : List (List ℕ)) → s.place ≡ place.Vertices → told_at place.Vertices s ≡ told → ClearAt place.Vertices s
+    → same (word_at line 0) (codes "v") ≡ true → vertex_line s line ≡ Ok t → Telling t (told ++ line ∷ [])
+unfolding vertex_line
+tells_vertex s t line told at h clear w e =
+    let a = passed _ why.Form _ t e in
+    let b = first (key (word_at line 1)) _ t a.1 in
+    let new : Reading = record s { source = record s.source { vertices = s.source.vertices ++ b.0 ∷ [] } } in
+    carried (λ (x : Reading). Telling x (told ++ line ∷ [])) new t b.2
+    (tells_by place.Vertices new _ at
+    (told_vertex (flat_map source_lines s.sources) s.source.name s.source.vertices s.source.edges b.0 told line clear.1 h (vertex_text_is line b.0 w a.0 b.1)) clear)
+
+told_edge : (a : List (List ℕ)) (n : List ℕ) (vs : List ℤ) (es : List (ℤ × ℤ × ℤ)) (x : ℤ × ℤ × ℤ) (told : List (List ℕ)) (line : List ℕ)
+    → a ++ record_lines n vs es ≡ told → line ≡ edge_text x → a ++ record_lines n vs (es ++ x ∷ []) ≡ told ++ line ∷ []
+told_edge a n vs es x told line h e = rw (opened_edge n vs es x) (more a (record_lines n vs es) told (edge_text x) line h e)
+
+tells_edge : (s t : Reading) (line : List ℕ) (told : List (List ℕ)) → told_at place.Edges s ≡ told → ClearAt place.Edges s
+    → same (word_at line 0) (codes "e") ≡ true → edge_line s line ≡ Ok t → Telling t (told ++ line ∷ [])
+unfolding edge_line
+tells_edge s t line told h clear w e =
+    let a = passed _ why.Form _ t e in
+    let b = first (key (word_at line 1)) _ t a.1 in
+    let c = first (key (word_at line 2)) _ t b.2 in
+    let d = first (key (word_at line 3)) _ t c.2 in
+    carried (λ (x : Reading). Telling x (told ++ line ∷ []))
+    (record s { place = place.Edges; source = record s.source { edges = s.source.edges ++ (b.0, c.0, d.0) ∷ [] } }) t d.2
+    (record {
+      tells = told_edge (flat_map source_lines s.sources) s.source.name s.source.vertices s.source.edges (b.0, c.0, d.0) told line h (edge_text_is line b.0 c.0 d.0 w a.0 b.1 c.1 d.1);
+      clear = clear;
+    })
+
+told_end : (sources : List SourceText) (n : List ℕ) (vs : List ℤ) (es : List (ℤ × ℤ × ℤ)) (told : List (List ℕ)) (line : List ℕ)
+    → flat_map source_lines sources ++ record_lines n vs es ≡ told → line ≡ codes "end" → flat_map source_lines (sources ++ record { name = n; form = Inline vs es } ∷ []) ≡ told ++ line ∷ []
+told_end sources n vs es told line h e =
+    flat_map-append source_lines sources (record { name = n; form = Inline vs es } ∷ [])
+    ∙ (ap (λ (z : List (List ℕ)). flat_map source_lines sources ++ z) (append-nil (record_lines n vs es ++ codes "end" ∷ []))
+    ∙ more (flat_map source_lines sources) (record_lines n vs es) told (codes "end") line h e)
+
+tells_end : (s t : Reading) (line : List ℕ) (told : List (List ℕ)) → told_at place.Edges s ≡ told → ClearAt place.Edges s
+    → same (word_at line 0) (codes "end") ≡ true → end_line s line ≡ Ok t → Telling t (told ++ line ∷ [])
+unfolding end_line
+tells_end s t line told h clear w e =
+    let a = passed _ why.Form _ t e in
+    carried (λ (x : Reading). Telling x (told ++ line ∷ []))
+    (record s {
+      place = place.Start;
+      sources = s.sources ++ record { name = s.source.name; form = Inline s.source.vertices s.source.edges } ∷ [];
+      source = record { name = []; vertices = []; edges = [] };
+    }) t a.1
+    (record { tells = told_end s.sources s.source.name s.source.vertices s.source.edges told line h (word_is line (codes "end") w a.0); clear = clear })
+
+tells_phase : (s t : Reading) (line : List ℕ) (told : List (List ℕ)) → told_at place.Start s ≡ told → ClearAt place.Start s
+    → same (word_at line 0) (codes "phase") ≡ true → phase_line s line ≡ Ok t → Telling t (told ++ line ∷ [])
+unfolding phase_line
+tells_phase s t line told h clear w e =
+    let a = passed _ why.Form _ t e in
+    carried (λ (x : Reading). Telling x (told ++ line ∷ [])) (record s { place = place.Phase }) t a.1
+    (record { tells = rw (h, word_is line (codes "phase") w a.0) refl; clear = clear })
+
+told_actor : (a : List (List ℕ)) (actors : List (List ℕ)) (commands : List Command) (actor : List ℕ) (told : List (List ℕ)) (line : List ℕ)
+    → actors ≡ [] → commands ≡ [] → a ++ open_phase [] [] ≡ told → line ≡ actor_text actor → a ++ open_phase (actors ++ actor ∷ []) commands ≡ told ++ line ∷ []
+told_actor a actors commands actor told line none clear h e =
+    rw (none, clear) (more a (open_phase [] []) told (actor_text actor) line h e)
+
+tells_actor : (s t : Reading) (line : List ℕ) (told : List (List ℕ)) → AtPlace place.Phase s → told_at place.Phase s ≡ told → ClearAt place.Phase s
+    → same (word_at line 0) (codes "actor") ≡ true → actor_line s line ≡ Ok t → Telling t (told ++ line ∷ [])
+unfolding actor_line
+tells_actor s t line told here h clear w e =
+    let a = passed _ why.Form _ t e in
+    let b = first (name (word_at line 1)) _ t a.1 in
+    let n = named _ _ b.1 in
+    carried (λ (x : Reading). Telling x (told ++ line ∷ [])) (record s { place = place.Actor; actors = s.actors ++ b.0 ∷ [] }) t b.2
+    (record {
+      tells = told_actor (flat_map source_lines s.sources) s.actors s.commands b.0 told line here clear h (actor_text_is line b.0 w a.0 n.0);
+      clear = tt;
+    })
+
+told_command : (a : List (List ℕ)) (actors : List (List ℕ)) (commands : List Command) (c : Command) (told : List (List ℕ)) (line : List ℕ)
+    → a ++ open_phase actors commands ≡ told → line ≡ c.line → a ++ open_phase actors (commands ++ c ∷ []) ≡ told ++ line ∷ []
+told_command a actors commands c told line h e =
+    rw (map-append (λ (c : Command). c.line) commands (c ∷ []), ← append_assoc (map actor_text actors) (map (λ (c : Command). c.line) commands) (c.line ∷ []))
+    (more a (open_phase actors commands) told c.line line h e)
+
+tells_command : (s t : Reading) (line : List ℕ) (told : List (List ℕ)) → s.place ≡ place.Actor → told_at place.Actor s ≡ told
+    → command_line s line ≡ Ok t → Telling t (told ++ line ∷ [])
+unfolding command_line
+tells_command s t line told at h e =
+    let a = first (command_of line) _ t e in
+    let b = passed (nat_le 65536 (length s.commands)) why.Many _ t a.2 in
+    let new : Reading = record s { commands = s.commands ++ a.0 ∷ [] } in
+    carried (λ (x : Reading). Telling x (told ++ line ∷ [])) new t b.1
+    (tells_by place.Actor new _ at
+    (told_command (flat_map source_lines s.sources) s.actors s.commands a.0 told line h (sym (command_line_is line a.0 a.1))) tt)
+
+no_word : (s t : Reading) (told : List (List ℕ)) → Err why.Word ≡ Ok t → Telling t told
+no_word s t told e = absurd (err_ok why.Word t e)
+
+tells_in : (p : Place) (s t : Reading) (line : List ℕ) (told : List (List ℕ)) → s.place ≡ p → AtPlace p s → told_at p s ≡ told → ClearAt p s
+    → line_in p s line ≡ Ok t → Telling t (told ++ line ∷ [])
+unfolding line_in
+tells_in place.Start s t line told at here h clear e =
+    either (same (word_at line 0) (codes "source")) _ _ t _ (λ w g. tells_source s t line told h clear w g)
+    (either (same (word_at line 0) (codes "phase")) _ _ t _ (λ w g. tells_phase s t line told h clear w g) (no_word s t _)) e
+tells_in place.Vertices s t line told at here h clear e =
+    either (same (word_at line 0) (codes "v")) _ _ t _ (λ w g. tells_vertex s t line told at h clear w g)
+    (either (same (word_at line 0) (codes "e")) _ _ t _ (λ w g. tells_edge s t line told h clear.0 w g)
+    (either (same (word_at line 0) (codes "end")) _ _ t _ (λ w g. tells_end s t line told h clear.0 w g) (no_word s t _))) e
+tells_in place.Edges s t line told at here h clear e =
+    either (same (word_at line 0) (codes "e")) _ _ t _ (λ w g. tells_edge s t line told h clear w g)
+    (either (same (word_at line 0) (codes "end")) _ _ t _ (λ w g. tells_end s t line told h clear w g) (no_word s t _)) e
+tells_in place.Phase s t line told at here h clear e =
+    either (same (word_at line 0) (codes "actor")) _ _ t _ (λ w g. tells_actor s t line told here h clear w g) (no_word s t _) e
+tells_in place.Actor s t line told at here h clear e = tells_command s t line told at h e
+
+-- the line, where it is not passed over
+abbrev kept : List ℕ → List (List ℕ)
+kept line = if is_passed line then [] else line ∷ []
+
+tells_step : (b : Bool) (s t : Reading) (line : List ℕ) (told : List (List ℕ)) → IsReading s → Telling s told
+    → (if b then Ok s else if not (is_utf8 line) then Err why.Utf8 else line_in s.place s line) ≡ Ok t → Telling t (told ++ (if b then [] else line ∷ []))
+tells_step true s t line told good h e = rw (append-nil told) (carried (λ (x : Reading). Telling x told) s t e h)
+tells_step false s t line told good h e =
+    tells_in s.place s t line told refl good.stands h.tells h.clear (passed (not (is_utf8 line)) why.Utf8 _ t e).1
+
+tells_line : (s t : Reading) (line : List ℕ) (told : List (List ℕ)) → IsReading s → Telling s told → line_step s line ≡ Ok t → Telling t (told ++ kept line)
+unfolding line_step
+tells_line s t line told good h e = tells_step (is_passed line) s t line told good h e
+
+-- ---- the end
+
+one_phase : (actors : List (List ℕ)) (actor : List ℕ) (commands : List Command) → actors ≡ actor ∷ []
+    → flat_map (phase_lines actors) ((record { actor = 1; commands = commands } ∷ []) ∷ []) ≡ open_phase actors commands
+one_phase actors actor commands e =
+    rw e (append-nil _ ∙ ap (λ (z : List (List ℕ)). codes "phase" ∷ z) (append-nil (actor_text actor ∷ map (λ (c : Command). c.line) commands)))
+
+script_at : (p : Place) (s : Reading) (told : List (List ℕ)) (phases : List (List Block)) → AtPlace p s → told_at p s ≡ told → phases_at p s.commands ≡ Ok phases
+    → flat_map source_lines s.sources ++ flat_map (phase_lines s.actors) phases ≡ told
+script_at place.Start s told phases here h e =
+    carried (λ (x : List (List Block)). flat_map source_lines s.sources ++ flat_map (phase_lines s.actors) x ≡ told) [] phases e (append-nil _ ∙ h)
+script_at place.Vertices s told phases here h e = absurd (err_ok why.End phases e)
+script_at place.Edges s told phases here h e = absurd (err_ok why.End phases e)
+script_at place.Phase s told phases here h e =
+    carried (λ (x : List (List Block)). flat_map source_lines s.sources ++ flat_map (phase_lines s.actors) x ≡ told) ([] ∷ []) phases e h
+script_at place.Actor s told phases here h e =
+    carried (λ (x : List (List Block)). flat_map source_lines s.sources ++ flat_map (phase_lines s.actors) x ≡ told)
+    ((record { actor = 1; commands = s.commands } ∷ []) ∷ []) phases e
+    (ap (λ (z : List (List ℕ)). flat_map source_lines s.sources ++ z) (one_phase s.actors here.0 s.commands here.1) ∙ h)
+
+ends_told : (n : ℕ) (s : Reading) (told : List (List ℕ)) (script : Script) → IsReading s → Telling s told → ended n s ≡ Ok script → script_lines script ≡ told
+unfolding ended
+ends_told n s told script good h e =
+    let a = at_line_ok n (phases_at s.place s.commands) _ script e in
+    carried (λ (x : Script). script_lines x ≡ told) (record { sources = s.sources; actors = s.actors; phases = a.0 }) script a.2
+    (script_at s.place s told a.0 good.stands h.tells a.1)
+
+kept_by : (b : Bool) (told : List (List ℕ)) (line : List ℕ) (lines : List (List ℕ)) → (told ++ (if b then [] else line ∷ [])) ++ lines ≡ told ++ (if b then lines else line ∷ lines)
+kept_by true told line lines = ap (λ (z : List (List ℕ)). z ++ lines) (append-nil told)
+kept_by false told line lines = append_assoc told (line ∷ []) lines
+
+kept_more : (told : List (List ℕ)) (line : List ℕ) (lines : List (List ℕ)) → (told ++ kept (cleaned line)) ++ kept_lines lines ≡ told ++ kept_lines (line ∷ lines)
+kept_more told line lines = kept_by (is_passed (cleaned line)) told (cleaned line) (kept_lines lines)
+
+reads_told : (n : ℕ) (s : Reading) (lines : List (List ℕ)) (told : List (List ℕ)) (script : Script) → IsReading s → Telling s told → lines_read n s lines ≡ Ok script
+    → script_lines script ≡ told ++ kept_lines lines
+unfolding lines_read
+reads_told n s [] told script good h e = ends_told n s told script good h e ∙ sym (append-nil told)
+reads_told n s (line ∷ lines) told script good h e =
+    let a = at_line_ok n (line_step s (cleaned line)) _ script e in
+    reads_told (n + 1) a.0 lines (told ++ kept (cleaned line)) script (keeps s a.0 (cleaned line) good a.1) (tells_line s a.0 (cleaned line) told good h a.1) a.2
+    ∙ kept_more told line lines
+
+-- the lines that a script spells are those that it was read from
+pub spells_lines : (answer : Result Script ScriptFault) (bytes : List ℕ) → ReadsScript answer (script_of bytes) → IfOk answer (λ script. script_lines script ≡ kept_lines (lines_of bytes))
+spells_lines (Ok script) bytes h = reads_told 1 opening (lines_of bytes) [] script opens_well (record { tells = refl; clear = refl }) h
+spells_lines (Err e) bytes h = tt

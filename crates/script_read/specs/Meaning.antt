@@ -1,0 +1,113 @@
+-- What a script that is read has, and what its first fault is.
+use Rattle.std.specs.Prelude.{◌≡◌, ◌≤◌, ◌-◌, ◌++◌, ℕ, ℤ, IsTrue, map, unwrap_or, slice_get, if◌then◌else◌, All, List, [], ◌∷◌, length, take, drop, codes, Result, Ok, Err, ⊤}
+use Rattle.std.specs.List.{flat_map}
+use Rattle.std.specs.Fmt.{signed_decimal}
+use Rattle.script_read.specs.declared.fault.LineWhy.{LineWhy}
+use Rattle.script_read.specs.declared.fault.ScriptFault.{ScriptFault}
+use Rattle.script_read.specs.declared.fault.ScriptFault.TheVariants.{BadLine, NoMemory}
+use Rattle.script_read.specs.declared.reading.Reading.{Reading}
+use Rattle.script_read.specs.declared.script.Block.{Block}
+use Rattle.script_read.specs.declared.script.Command.{Command}
+use Rattle.script_read.specs.declared.script.Form.{Form}
+use Rattle.script_read.specs.declared.script.Form.TheVariants as form
+use Rattle.script_read.specs.declared.script.Script.{Script}
+use Rattle.script_read.specs.declared.script.SourceForm.{SourceForm}
+use Rattle.script_read.specs.declared.script.SourceForm.TheVariants.{Inline}
+use Rattle.script_read.specs.declared.script.SourceText.{SourceText}
+use Rattle.script_read.specs.Faults.{◌>>=◌}
+use Rattle.script_read.specs.Lines.{cleaned, is_passed, line_step}
+use Rattle.script_read.specs.Script.{opening, phases_at}
+use Rattle.script_read.specs.Words.{is_name}
+
+-- the line that a form spells
+abbrev pub spelled : Form → List ℕ
+spelled (form.Show source) = codes "show " ++ source
+
+-- the words of a form that are due as names are names
+abbrev pub HasNames : Form → Type 0
+HasNames (form.Show source) = IsTrue (is_name source)
+
+-- a command's line spells its form
+pub record IsCommand (command : Command) : Type 0 where
+  pub spells : command.line ≡ spelled command.form
+  pub names : HasNames command.form
+
+-- the block of the one actor
+pub record IsBlock (block : Block) : Type 0 where
+  pub actor : block.actor ≡ 1
+  pub few : length block.commands ≤ 65536
+  pub commands : All IsCommand block.commands
+
+-- the phases of a script with these actors: no block where no actor stands, and one block where one stands
+abbrev pub HasPhases : List (List ℕ) → List (List Block) → Type 0
+HasPhases [] [] = ⊤
+HasPhases [] ([] ∷ []) = ⊤
+HasPhases (actor ∷ []) ((block ∷ []) ∷ []) = IsTrue (is_name actor) × IsBlock block
+HasPhases actors phases = ⊥
+
+-- a script with at most one source, one phase and one actor
+pub record IsScript (script : Script) : Type 0 where
+  pub few : length script.sources ≤ 1
+  pub names : All (λ source. IsTrue (is_name source.name)) script.sources
+  pub phases : HasPhases script.actors script.phases
+
+-- the line of a key, of an edge's three keys, and of an actor
+abbrev pub vertex_text : ℤ → List ℕ
+vertex_text k = codes "v " ++ signed_decimal k
+
+abbrev pub edge_text : ℤ × ℤ × ℤ → List ℕ
+edge_text (k, from, to) = codes "e " ++ (signed_decimal k ++ (32 ∷ (signed_decimal from ++ (32 ∷ signed_decimal to))))
+
+abbrev pub actor_text : List ℕ → List ℕ
+actor_text actor = codes "actor " ++ actor
+
+-- the lines of an inline source up to its `end`
+abbrev pub record_lines : List ℕ → List ℤ → List (ℤ × ℤ × ℤ) → List (List ℕ)
+record_lines source vertices edges = (codes "source " ++ (source ++ codes " inline")) ∷ (map vertex_text vertices ++ map edge_text edges)
+
+-- the lines of a source of this name
+abbrev pub form_lines : List ℕ → SourceForm → List (List ℕ)
+form_lines source (Inline vertices edges) = record_lines source vertices edges ++ codes "end" ∷ []
+
+-- the lines of a source
+abbrev pub source_lines : SourceText → List (List ℕ)
+source_lines source = form_lines source.name source.form
+
+-- the lines of a block, whose actor is known by its number from 1
+abbrev pub block_lines : List (List ℕ) → Block → List (List ℕ)
+block_lines actors block = actor_text (unwrap_or (slice_get actors (block.actor - 1)) []) ∷ map (λ command. command.line) block.commands
+
+-- the lines of a phase
+abbrev pub phase_lines : List (List ℕ) → List Block → List (List ℕ)
+phase_lines actors blocks = codes "phase" ∷ flat_map (block_lines actors) blocks
+
+-- the lines that a script spells
+abbrev pub script_lines : Script → List (List ℕ)
+script_lines script = flat_map source_lines script.sources ++ flat_map (phase_lines script.actors) script.phases
+
+-- the lines that are not passed over, each as it is read
+abbrev pub kept_lines : List (List ℕ) → List (List ℕ)
+kept_lines [] = []
+kept_lines (line ∷ lines) = if is_passed (cleaned line) then kept_lines lines else cleaned line ∷ kept_lines lines
+
+-- what is read after these lines, or the why of the first with a fault
+abbrev pub after : Reading → List (List ℕ) → Result Reading LineWhy
+after s [] = Ok s
+after s (line ∷ lines) = line_step s (cleaned line) >>= (λ t. after t lines)
+
+-- the next line has this fault, or the end where there is no next line
+abbrev pub FaultNext : Reading → List (List ℕ) → LineWhy → Type 0
+FaultNext s [] why = phases_at s.place s.commands ≡ Err why
+FaultNext s (line ∷ lines) why = line_step s (cleaned line) ≡ Err why
+
+-- the line of this number, from 1, has this fault in what the lines before it leave, and they have none
+pub record FirstFault (lines : List (List ℕ)) (number : ℕ) (why : LineWhy) : Type 0 where
+  pub counted : 1 ≤ number
+  pub left : Reading
+  pub before : after opening (take (number - 1) lines) ≡ Ok left
+  pub next : FaultNext left (drop (number - 1) lines) why
+
+-- a line that is named is the first with a fault
+abbrev pub NamesFirst : List (List ℕ) → ScriptFault → Type 0
+NamesFirst lines (BadLine number why) = FirstFault lines number why
+NamesFirst lines NoMemory = ⊤

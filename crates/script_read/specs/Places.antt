@@ -1,0 +1,87 @@
+-- What a line does in the place where it stands.
+use Rattle.std.specs.Prelude.{ℕ, ◌==◌, ◌&&◌, ◌++◌, not, nat_le, if◌then◌else◌, Bool, List, [], ◌∷◌, length, codes, Result, Ok, Err}
+use Rattle.std.specs.List.{list_any}
+use Rattle.script_read.specs.declared.fault.LineWhy.{LineWhy}
+use Rattle.script_read.specs.declared.fault.LineWhy.TheVariants as why
+use Rattle.script_read.specs.declared.reading.Place.{Place}
+use Rattle.script_read.specs.declared.reading.Place.TheVariants as place
+use Rattle.script_read.specs.declared.reading.Reading.{Reading}
+use Rattle.script_read.specs.declared.script.SourceForm.TheVariants.{Inline}
+use Rattle.script_read.specs.declared.script.SourceText.{SourceText}
+use Rattle.script_read.specs.Commands.{command_of}
+use Rattle.script_read.specs.Faults.{◌>>=◌}
+use Rattle.script_read.specs.Words.{same, word_at, word_count, name, key}
+
+-- whether a source has this name
+abbrev pub has_source : List SourceText → List ℕ → Bool
+has_source sources text = list_any (λ source. same source.name text) sources
+
+-- `source S inline`
+unfoldable pub source_line : Reading → List ℕ → Result Reading LineWhy
+source_line s line =
+    if not ((word_count line == 3) && same (word_at line 2) (codes "inline")) then Err why.Form
+    else (do
+      source ← name (word_at line 1)
+      if has_source s.sources source then Err why.Twice
+          else (if nat_le 1 (length s.sources) then Err why.Many
+          else Ok (record s { place = place.Vertices; source = record { name = source; vertices = []; edges = [] } })))
+
+-- `v KEY`
+unfoldable pub vertex_line : Reading → List ℕ → Result Reading LineWhy
+vertex_line s line =
+    if not (word_count line == 2) then Err why.Form
+    else (key (word_at line 1) >>= (λ k. Ok (record s { source = record s.source { vertices = s.source.vertices ++ k ∷ [] } })))
+
+-- `e KEY SOURCE DESTINATION`
+unfoldable pub edge_line : Reading → List ℕ → Result Reading LineWhy
+edge_line s line =
+    if not (word_count line == 4) then Err why.Form
+    else (do
+      k ← key (word_at line 1)
+      from ← key (word_at line 2)
+      to ← key (word_at line 3)
+      Ok (record s { place = place.Edges; source = record s.source { edges = s.source.edges ++ (k, from, to) ∷ [] } }))
+
+-- `end`
+unfoldable pub end_line : Reading → List ℕ → Result Reading LineWhy
+end_line s line =
+    if not (word_count line == 1) then Err why.Form
+    else Ok (record s {
+      place = place.Start;
+      sources = s.sources ++ record { name = s.source.name; form = Inline s.source.vertices s.source.edges } ∷ [];
+      source = record { name = []; vertices = []; edges = [] };
+    })
+
+-- `phase`
+unfoldable pub phase_line : Reading → List ℕ → Result Reading LineWhy
+phase_line s line = if not (word_count line == 1) then Err why.Form else Ok (record s { place = place.Phase })
+
+-- `actor A`
+unfoldable pub actor_line : Reading → List ℕ → Result Reading LineWhy
+actor_line s line =
+    if not (word_count line == 2) then Err why.Form
+    else (name (word_at line 1) >>= (λ actor. Ok (record s { place = place.Actor; actors = s.actors ++ actor ∷ [] })))
+
+-- a command
+unfoldable pub command_line : Reading → List ℕ → Result Reading LineWhy
+command_line s line = do
+  command ← command_of line
+  if nat_le 65536 (length s.commands) then Err why.Many else Ok (record s { commands = s.commands ++ command ∷ [] })
+
+-- what a place allows, by the first word of a line
+unfoldable pub line_in : Place → Reading → List ℕ → Result Reading LineWhy
+line_in place.Start s line =
+    if same (word_at line 0) (codes "source") then source_line s line
+    else if same (word_at line 0) (codes "phase") then phase_line s line
+    else Err why.Word
+line_in place.Vertices s line =
+    if same (word_at line 0) (codes "v") then vertex_line s line
+    else if same (word_at line 0) (codes "e") then edge_line s line
+    else if same (word_at line 0) (codes "end") then end_line s line
+    else Err why.Word
+line_in place.Edges s line =
+    if same (word_at line 0) (codes "e") then edge_line s line
+    else if same (word_at line 0) (codes "end") then end_line s line
+    else Err why.Word
+line_in place.Phase s line = if same (word_at line 0) (codes "actor") then actor_line s line else Err why.Word
+line_in place.Actor s line = command_line s line

@@ -1,0 +1,69 @@
+-- The words of a line, and what a word is read as.
+use Rattle.std.specs.Prelude.{ℕ, ◌==◌, ◌&&◌, ◌||◌, ℤ, Bool, false, not, nat_eq, nat_le, if◌then◌else◌, List, [], ◌∷◌, length, slice_get, unwrap_or, codes, Option, Some, None, Result, Ok, Err}
+use Rattle.std.specs.List.{list_all, slice_split}
+use Rattle.std.specs.Cmp.Lexicographic.{pointwise}
+use Rattle.column_types.specs.Reading.{whole_of}
+use Rattle.script_read.specs.declared.fault.LineWhy.{LineWhy}
+use Rattle.script_read.specs.declared.fault.LineWhy.TheVariants as why
+
+-- whether two texts have the same bytes
+abbrev pub same : List ℕ → List ℕ → Bool
+same a b = pointwise nat_eq a b
+
+abbrev pub is_space : ℕ → Bool
+is_space c = c == 32
+
+-- the words of a line: the parts between single spaces, so that two spaces in a row have an empty word between them
+abbrev pub words_of : List ℕ → List (List ℕ)
+words_of line = slice_split is_space line
+
+-- how many words a line has
+unfoldable pub word_count : List ℕ → ℕ
+word_count line = length (words_of line)
+
+-- the word at a place, from 0, and the empty word past the end
+unfoldable pub word_at : List ℕ → ℕ → List ℕ
+word_at line place = unwrap_or (slice_get (words_of line) place) []
+
+-- an ASCII letter or `_`
+abbrev pub is_letter : ℕ → Bool
+is_letter c = (nat_le 65 c && nat_le c 90) || (nat_le 97 c && nat_le c 122) || (c == 95)
+
+abbrev pub is_digit : ℕ → Bool
+is_digit c = nat_le 48 c && nat_le c 57
+
+-- an ASCII letter, a digit or `_`
+abbrev pub is_name_byte : ℕ → Bool
+is_name_byte c = is_letter c || is_digit c
+
+-- a name is a letter or `_` and then letters, digits and `_`, at most 64 bytes together
+abbrev pub is_name : List ℕ → Bool
+is_name [] = false
+is_name (c ∷ cs) = is_letter c && (list_all is_name_byte (c ∷ cs) && nat_le (length (c ∷ cs)) 64)
+
+-- a word that is due as a name
+unfoldable pub name : List ℕ → Result (List ℕ) LineWhy
+name word = if is_name word then Ok word else Err why.Name
+
+-- decimal digits without a leading zero
+abbrev pub is_decimal : List ℕ → Bool
+is_decimal [] = false
+is_decimal (c ∷ cs) = list_all is_digit (c ∷ cs) && ((length (c ∷ cs) == 1) || not (c == 48))
+
+-- an optional `-` and decimal digits without a leading zero, but not `-0`
+abbrev pub is_key : List ℕ → Bool
+is_key [] = false
+is_key (c ∷ cs) = if c == 45 then is_decimal cs && not (same cs (codes "0")) else is_decimal (c ∷ cs)
+
+-- the LONG that a word writes as a key
+unfoldable pub key_number : List ℕ → Option ℤ
+key_number word = if is_key word then whole_of 63 word else None
+
+-- what is there, or the why `number`
+abbrev pub or_number : Option ℤ → Result ℤ LineWhy
+or_number None = Err why.Number
+or_number (Some n) = Ok n
+
+-- a word that is due as a key
+unfoldable pub key : List ℕ → Result ℤ LineWhy
+key word = or_number (key_number word)

@@ -1,0 +1,53 @@
+//! Scripts as data.
+use column_types::{List, Text};
+
+/// A script that has been read. Contracts see it as these lists.
+#[derive(Debug, Drop, PartialEq, Eq)]
+pub struct Script {
+    /// The sources in order.
+    pub sources: List<SourceText>,
+    /// The actors in order of first mention: actor 1, actor 2 and so on.
+    pub actors: List<Text>,
+    /// The phases in order, each the blocks of its actors in order.
+    pub phases: List<List<Block>>,
+}
+
+/// A source under its name.
+#[derive(Debug, Drop, PartialEq, Eq)]
+pub struct SourceText {
+    pub name: Text,
+    pub form: SourceForm,
+}
+
+/// Where a source's records stand.
+#[derive(Debug, Drop, PartialEq, Eq)]
+pub enum SourceForm {
+    /// In the script: the key of each `v` line, and the key, source and destination of each `e` line.
+    Inline {
+        vertices: List<i64>,
+        edges: List<(i64, i64, i64)>,
+    },
+}
+
+/// What one actor does in one phase.
+#[derive(Debug, Drop, PartialEq, Eq)]
+pub struct Block {
+    /// The actor's number, from 1.
+    pub actor: u32,
+    pub commands: List<Command>,
+}
+
+/// A command.
+#[derive(Debug, Drop, PartialEq, Eq)]
+pub struct Command {
+    /// The line, without spaces at its start and a carriage return at its end.
+    pub line: Text,
+    pub form: Form,
+}
+
+/// What a command asks, with its variable words in order.
+#[derive(Debug, Drop, PartialEq, Eq)]
+pub enum Form {
+    /// Show the source of this name.
+    Show(Text),
+}

@@ -1,0 +1,115 @@
+//! The words of a line, and what a word is read as.
+ghost use Rattle.std.specs.Prelude.{◌≡◌};
+ghost use Rattle.std.specs.List.{list_all};
+ghost use Rattle.script_read.specs.Faults.{Gives};
+ghost use Rattle.script_read.specs.Words.{word_count, word_at, is_letter, is_digit, is_name_byte, is_name, name, is_decimal, is_key, key_number, key};
+
+use crate::fault::{LineFault, LineWhy};
+use column_types::Text;
+use std::alloc::Global;
+
+/// The number of words.
+#[tactic(auto, unfolding(crate::specs::Words::word_count))]
+pub fn count_words(line: &str) -> usize
+    ensures { result ≡ word_count line.now }
+{
+    line.split(' ').count()
+}
+
+/// The word at a place, counted from 0, and the empty word past the end.
+#[tactic(auto, unfolding(crate::specs::Words::word_at))]
+pub fn nth_word(line: &str, place: usize) -> &str
+    ensures { result.now ≡ word_at line.now place }
+{
+    line.split(' ').nth(place).unwrap_or("")
+}
+
+fn is_letter(c: u8) -> bool
+    ensures { result ≡ is_letter c }
+{
+    (b'A' <= c && c <= b'Z') || (b'a' <= c && c <= b'z') || c == b'_'
+}
+
+fn is_digit(c: u8) -> bool
+    ensures { result ≡ is_digit c }
+{
+    b'0' <= c && c <= b'9'
+}
+
+fn is_name_byte(c: u8) -> bool
+    ensures { result ≡ is_name_byte c }
+{
+    is_letter(c) || is_digit(c)
+}
+
+fn are_name_bytes(bytes: &[u8]) -> bool
+    ensures { result ≡ list_all is_name_byte bytes.now }
+{
+    bytes.iter().all(|c| is_name_byte(*c))
+}
+
+fn is_name(bytes: &[u8]) -> bool
+    ensures { result ≡ is_name bytes.now }
+{
+    match bytes {
+        [] => false,
+        [first, ..] => is_letter(*first) && are_name_bytes(bytes) && bytes.len() <= 64,
+    }
+}
+
+/// A word that is due as a name.
+#[tactic(auto, unfolding(crate::specs::Words::name))]
+pub fn read_name(alloc: Global, word: &str) -> Result<Text, LineFault>
+    ensures { Gives result (name word.now) }
+{
+    if !is_name(word.as_bytes()) {
+        return Err(LineFault::Bad(LineWhy::Name));
+    }
+    Ok(Text::from_str(alloc, word)?)
+}
+
+fn are_digits(bytes: &[u8]) -> bool
+    ensures { result ≡ list_all is_digit bytes.now }
+{
+    bytes.iter().all(|c| is_digit(*c))
+}
+
+fn is_decimal(bytes: &[u8]) -> bool
+    ensures { result ≡ is_decimal bytes.now }
+{
+    match bytes {
+        [] => false,
+        [first, ..] => are_digits(bytes) && (bytes.len() == 1 || *first != b'0'),
+    }
+}
+
+fn is_key(bytes: &[u8]) -> bool
+    ensures { result ≡ is_key bytes.now }
+{
+    match bytes {
+        [] => false,
+        [b'-', digits @ ..] => is_decimal(digits) && digits != b"0".as_slice(),
+        [_, ..] => is_decimal(bytes),
+    }
+}
+
+#[tactic(auto, using(column_types::proofs::Whole::parsed_64), unfolding(crate::specs::Words::key_number))]
+fn key_number(word: &str) -> Option<i64>
+    ensures { result ≡ key_number word.now }
+{
+    if !is_key(word.as_bytes()) {
+        return None;
+    }
+    word.parse::<i64>().ok()
+}
+
+/// A word that is due as a key.
+#[tactic(auto, unfolding(crate::specs::Words::key))]
+pub fn read_key(word: &str) -> Result<i64, LineFault>
+    ensures { Gives result (key word.now) }
+{
+    match key_number(word) {
+        Some(key) => Ok(key),
+        None => Err(LineFault::Bad(LineWhy::Number)),
+    }
+}
