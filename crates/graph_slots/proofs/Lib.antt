@@ -1,0 +1,4 @@
+pub mod Kept
+pub mod More
+pub mod Few
+pub mod Order

@@ -1,0 +1,7 @@
+use Rattle.std.proofs.Common.{◌≡◌, ◌++◌, take}
+use Rattle.std.specs.List.{flat_map}
+use Rattle.graph_text.specs.Text.{vertex_line}
+use Rattle.graph_text.proofs.text.push_vertex_rows.Given as goal
+
+abbrev pub invariant-loop-row : goal.invariant-loop-row
+invariant-loop-row l = l.out ≡ l.fn.out ++ flat_map (vertex_line l.table) (take l.row-index l.rows)

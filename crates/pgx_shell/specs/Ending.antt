@@ -1,0 +1,58 @@
+-- How a call of the program ends: what it says, the status, and why.
+use Rattle.std.specs.Prelude.{◌≡◌, ◌⊎◌, ℕ, List, [], ◌++◌, Option, None, IsSome, IsSomeAnd, codes, ⊤}
+use Rattle.std.specs.Fmt.{decimal}
+use Rattle.std.specs.Io.KnownBytes.{Appends}
+use Rattle.pgx_io.specs.Whole.{AppendsFront}
+use Rattle.pgx_shell.specs.Causes.{StopCause}
+use Rattle.pgx_shell.specs.Texts.{Outcome, ActionOutcome}
+use Rattle.pgx_shell.specs.Words.{form_of, IsUsage}
+use Rattle.pgx_shell.specs.declared.stop.Stop.{Stop}
+use Rattle.pgx_shell.specs.declared.stop.Stop.TheVariants.{BadScript, BadSource, ReadFault, WriteFault, NoMemory}
+
+-- the line that is written for a stop
+abbrev pub error_line : Stop → List ℕ
+error_line BadScript = codes "error script\n"
+error_line BadSource = codes "error source\n"
+error_line ReadFault = codes "error read fault\n"
+error_line WriteFault = []
+error_line NoMemory = codes "error no memory\n"
+
+abbrev pub stop_status : Stop → ℕ
+stop_status BadScript = 3
+stop_status BadSource = 4
+stop_status NoMemory = 5
+stop_status ReadFault = 6
+stop_status WriteFault = 7
+
+-- what a call comes to: the words are no form, or a command did its work, or it stopped
+pub data Ending : Type 0 where
+  usage : ℕ → Ending
+  done : Outcome → Ending
+  stopped : Stop → Ending
+
+abbrev pub ending_text : Ending → List ℕ
+ending_text (usage place) = codes "usage " ++ decimal place ++ codes "\n"
+ending_text (done outcome) = outcome.text
+ending_text (stopped stop) = error_line stop
+
+abbrev pub ending_status : Ending → ℕ
+ending_status (usage place) = 2
+ending_status (done outcome) = 0
+ending_status (stopped stop) = stop_status stop
+
+-- When each ending comes. `reading`: the source's faults rose.
+abbrev pub EndingCause : List (List ℕ) → Option (List ℕ) → Type 0 → Ending → Type 0
+EndingCause words rest reading (usage place) = (form_of words ≡ None) × IsUsage words place
+EndingCause words rest reading (done outcome) = IsSomeAnd (form_of words) (λ action. ActionOutcome action rest outcome)
+EndingCause words rest reading (stopped NoMemory) = ⊤
+EndingCause words rest reading (stopped stop) = IsSome (form_of words) × StopCause rest reading ⊥ stop
+
+-- The whole text was written and this is its status; or a prefix of it was written, the sink's faults rose, and the status
+-- is 7.
+abbrev pub Tells : Option (List ℕ) → Option (List ℕ) → Type 0 → List ℕ → ℕ → ℕ → Type 0
+Tells old new writing text status code = ((code ≡ status) × Appends old new text) ⊎ ((code ≡ 7) × writing × AppendsFront old new text)
+
+-- What ending a call does after a stop: nothing after a fault in writing, else it writes the line of the stop.
+abbrev pub StopTold : Option (List ℕ) → Option (List ℕ) → Type 0 → Stop → ℕ → Type 0
+StopTold old new writing WriteFault code = (code ≡ 7) × (new ≡ old)
+StopTold old new writing stop code = Tells old new writing (error_line stop) (stop_status stop) code

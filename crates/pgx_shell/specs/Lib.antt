@@ -1,0 +1,11 @@
+pub mod Fault
+pub mod Inline
+pub mod Opening
+pub mod Run
+pub mod Journal
+pub mod Due
+pub mod Texts
+pub mod Causes
+pub mod Words
+pub mod Ending
+pub mod Rows

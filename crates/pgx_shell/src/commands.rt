@@ -1,0 +1,107 @@
+//! The command `once`.
+ghost use Rattle.std.specs.Prelude.{◌≡◌, ◌≤◌, ◌<◌, ◌^◌, IfOk, IfErr, OnOk, IfSome, Ok, None, length};
+ghost use Rattle.std.specs.Io.KnownBytes.{Appends, IsAtEnd};
+ghost use Rattle.pgx_io.specs.Causes.{Rose};
+ghost use Rattle.pgx_io.specs.Whole.{AppendsFront};
+ghost use Rattle.pgx_shell.specs.Due.{script_due};
+ghost use Rattle.pgx_shell.specs.Run.{turns_of_phases};
+ghost use Rattle.pgx_shell.specs.Causes.{ScriptCause, StopCause, StopWrites};
+ghost use Rattle.pgx_shell.specs.Texts.{OnceOutcome, Wrote};
+
+use crate::Stop;
+use crate::open::open_sources;
+use crate::printing::journal;
+use crate::run::run_phases;
+use column_types::{List, Text};
+use pgx_io::{Library, ReadAllFault, Sink, Source, read_all, write_all};
+use script_read::{Script, ScriptFault, read_script};
+use std::alloc::Global;
+use std::thread::Threads;
+
+/// The script, where the command reads one, was read to its end, and the whole text was written.
+#[derive(Clone, Copy, Debug)]
+pub struct Done {}
+
+/// Runs the script of a source, one command after another, and writes its journal.
+pub fn once<R: Threads + Sync, S: Source, L: Library, K: Sink>(
+    rt: &R,
+    alloc: Global,
+    workers: u32,
+    src: &mut S,
+    _lib: &mut L,
+    out: &mut K,
+) -> Result<Done, Stop>
+    // Done: the source was read to its end, and the sink took the journal of a run of its script.
+    ensures read { OnOk result (IsAtEnd (S.rest src.new)) }
+    ensures written { OnOk result (Wrote (OnceOutcome (S.rest src.old)) (K.taken out.old) (K.taken out.new)) }
+
+    // A stop has its cause, and says what was written.
+    ensures cause { IfErr result (StopCause (S.rest src.old) (Rose (S.faults src.old) (S.faults src.new))
+        (Rose (K.faults out.old) (K.faults out.new))) }
+    ensures left { IfErr result (StopWrites (OnceOutcome (S.rest src.old)) (K.taken out.old) (K.taken out.new)) }
+
+    // Faults are never taken back.
+    ensures source_later { S.faults src.old ≤ S.faults src.new }
+    ensures sink_later { K.faults out.old ≤ K.faults out.new }
+{
+    let text = once_text(rt, alloc, workers, src)?;
+    write_text(out, text.as_str())
+}
+
+/// The journal of the script of a source.
+fn once_text<R: Threads + Sync, S: Source>(
+    rt: &R,
+    alloc: Global,
+    _workers: u32,
+    src: &mut S,
+) -> Result<Text, Stop>
+    ensures read { OnOk result (IsAtEnd (S.rest src.new)) }
+    ensures text { IfOk result (λ text. OnceOutcome (S.rest src.old) (record { text = text; book = None })) }
+    ensures cause { IfErr result (StopCause (S.rest src.old) (Rose (S.faults src.old) (S.faults src.new)) ⊥) }
+    ensures later { S.faults src.old ≤ S.faults src.new }
+{
+    let script = read_source(alloc, src)?;
+    let openings = open_sources(alloc, script.sources.as_slice())?;
+    let mut records = List::new(alloc);
+    run_phases(
+        alloc,
+        openings.as_slice(),
+        script.phases.as_slice(),
+        &mut records,
+    )?;
+    Ok(journal(rt, alloc, records.as_slice(), script.actors.as_slice())?)
+}
+
+/// Writes a whole text.
+fn write_text<K: Sink>(out: &mut K, text: &str) -> Result<Done, Stop>
+    ensures ok { OnOk result (Appends (K.taken out.old) (K.taken out.new) text.now) }
+    ensures err { IfErr result (λ stop. (stop ≡ Stop.WriteFault) × Rose (K.faults out.old) (K.faults out.new)
+        × AppendsFront (K.taken out.old) (K.taken out.new) text.now) }
+    ensures later { K.faults out.old ≤ K.faults out.new }
+{
+    match write_all(out, text.as_bytes()) {
+        Ok(()) => Ok(Done {}),
+        Err(_) => Err(Stop::WriteFault),
+    }
+}
+
+/// Reads a source to its end, and its script.
+fn read_source<S: Source>(alloc: Global, src: &mut S) -> Result<Script, Stop>
+    ensures ok { IfOk result (λ script. IfSome (S.rest src.old) (λ bytes. script_due bytes ≡ Ok script)) }
+    ensures few { IfOk result (λ script. length (turns_of_phases script.phases) < 2 ^ 32) }
+    ensures end { OnOk result (IsAtEnd (S.rest src.new)) }
+    ensures cause { IfErr result (ScriptCause (S.rest src.old) (Rose (S.faults src.old) (S.faults src.new))) }
+    ensures later { S.faults src.old ≤ S.faults src.new }
+{
+    let bytes = match read_all(alloc, src) {
+        Ok(bytes) => bytes,
+        Err(ReadAllFault::TooLong) => return Err(Stop::BadScript),
+        Err(ReadAllFault::Failed) => return Err(Stop::ReadFault),
+        Err(ReadAllFault::NoMemory) => return Err(Stop::NoMemory),
+    };
+    match read_script(alloc, bytes.as_slice()) {
+        Ok(script) => Ok(script),
+        Err(ScriptFault::BadLine { .. }) => Err(Stop::BadScript),
+        Err(ScriptFault::NoMemory) => Err(Stop::NoMemory),
+    }
+}

@@ -1,0 +1,178 @@
+//! The worked rows, and scripts at the edge of the grammar with their statuses.
+use crate::{Status, top};
+use column_types::List;
+use pgx_io::{MemSink, MemSource, OpenGate, SureLibrary};
+use std::alloc::Global;
+use std::test::Fail;
+use std::thread::Threads;
+
+const SHOW_S: &str =
+    "source s inline\nv 1\nv 2\ne 10 1 2\ne 11 1 2\ne 12 2 2\nend\nphase\nactor a\nshow s\n";
+
+const ROWS_OF_S: &str =
+    "[0.1 a] show s\n  ok 2 3\n  v V 1\n  v V 2\n  e E 10 1 2\n  e E 11 1 2\n  e E 12 2 2\n  out V 1: 10 11\n  in V 1:\n  out V 2: 12\n  in V 2: 10 11 12\n";
+
+/// Runs the words over a script in memory, read in pieces of 7 bytes and written in pieces of 10, whose listed calls fail.
+fn run<R: Threads + Sync>(
+    rt: &R,
+    alloc: Global,
+    words: &str,
+    script: &str,
+    source_fails: &[u32],
+    sink_fails: &[u32],
+) -> Result<(Status, MemSink), Fail> {
+    let mut owned = Vec::new(alloc);
+    if !words.is_empty() {
+        for word in words.split(' ') {
+            owned.push(String::from_str(alloc, word)?)?;
+        }
+    }
+    let bytes = List::from_slice(alloc, script.as_bytes())?;
+    let mut source = MemSource::new(bytes, 7, List::from_slice(alloc, source_fails)?);
+    let mut library = SureLibrary::new(List::new(alloc));
+    let mut sink = MemSink::new(alloc, 1000, 10, List::from_slice(alloc, sink_fails)?)?;
+    let status = top(
+        rt,
+        alloc,
+        owned.as_slice(),
+        &mut source,
+        &mut library,
+        &mut sink,
+        &OpenGate,
+    );
+    Ok((status, sink))
+}
+
+/// Whether the words end with this status and text over a script, where no call fails.
+fn ends<R: Threads + Sync>(
+    rt: &R,
+    alloc: Global,
+    words: &str,
+    script: &str,
+    code: u8,
+    text: &str,
+) -> Result<bool, Fail> {
+    let (status, sink) = run(rt, alloc, words, script, &[], &[])?;
+    Ok(status.code == code && sink.bytes() == text.as_bytes())
+}
+
+#[test]
+fn empty_script(rt: HostRuntime) -> Result<(), Fail> {
+    assert!(rt; ends(&rt, rt.alloc(), "once", "", 0, "")?);
+    Ok(())
+}
+
+#[test]
+fn show_inline_source(rt: HostRuntime) -> Result<(), Fail> {
+    assert!(rt; ends(&rt, rt.alloc(), "once", SHOW_S, 0, ROWS_OF_S)?);
+    Ok(())
+}
+
+#[test]
+fn show_unknown_source(rt: HostRuntime) -> Result<(), Fail> {
+    let script = "source s inline\nv 1\nend\nphase\nactor a\nshow x\n";
+    let text = "[0.1 a] show x\n  refused 19 NoSource x\n";
+    assert!(rt; ends(&rt, rt.alloc(), "once", script, 0, text)?);
+    Ok(())
+}
+
+#[test]
+fn usage_names_the_word(rt: HostRuntime) -> Result<(), Fail> {
+    assert!(rt; ends(&rt, rt.alloc(), "", SHOW_S, 2, "usage 0\n")?);
+    assert!(rt; ends(&rt, rt.alloc(), "twice", SHOW_S, 2, "usage 0\n")?);
+    assert!(rt; ends(&rt, rt.alloc(), "once x", SHOW_S, 2, "usage 1\n")?);
+    Ok(())
+}
+
+#[test]
+fn failing_sink_and_source(rt: HostRuntime) -> Result<(), Fail> {
+    let (status, sink) = run(&rt, rt.alloc(), "once", SHOW_S, &[], &[2])?;
+    assert_eq!(rt; status.code, 7);
+    assert_eq!(rt; sink.bytes(), "[0.1 a] sh".as_bytes());
+    let (status, sink) = run(&rt, rt.alloc(), "once", SHOW_S, &[1], &[])?;
+    assert_eq!(rt; status.code, 6);
+    assert_eq!(rt; sink.bytes(), "error read fault\n".as_bytes());
+    Ok(())
+}
+
+/// The status of `once` over a script: 0 accepted, 3 outside the grammar, 4 no graph.
+fn status<R: Threads + Sync>(rt: &R, alloc: Global, script: &str) -> Result<u8, Fail> {
+    let (status, _) = run(rt, alloc, "once", script, &[], &[])?;
+    Ok(status.code)
+}
+
+#[test]
+fn accepted_scripts(rt: HostRuntime) -> Result<(), Fail> {
+    let alloc = rt.alloc();
+    assert_eq!(rt; status(&rt, alloc, "phase\nactor a\nshow s")?, 0);
+    assert_eq!(rt;
+        status(
+            &rt,
+            alloc,
+            "# none\n\n  phase\r\n  # more\nactor a\r\nshow s\r\n"
+        )?,
+        0
+    );
+    assert_eq!(rt; status(&rt, alloc, "source s inline\nend\nphase\n")?, 0);
+    assert_eq!(rt;
+        status(
+            &rt,
+            alloc,
+            "source s inline\nv -9223372036854775808\ne 1 -9223372036854775808 -9223372036854775808\nend\n"
+        )?,
+        0
+    );
+    Ok(())
+}
+
+#[test]
+fn scripts_outside_the_grammar(rt: HostRuntime) -> Result<(), Fail> {
+    let alloc = rt.alloc();
+    assert_eq!(rt; status(&rt, alloc, "phase\nactor a\nshow  \n")?, 3);
+    assert_eq!(rt; status(&rt, alloc, "source s inline\nv 1\nphase\n")?, 3);
+    assert_eq!(rt; status(&rt, alloc, "source s inline\nv 1\n")?, 3);
+    assert_eq!(rt; status(&rt, alloc, "source s inline\nv 01\nend\n")?, 3);
+    assert_eq!(rt;
+        status(&rt, alloc, "source s inline\ne 1 1 1\nv 1\nend\n")?,
+        3
+    );
+    assert_eq!(rt; status(&rt, alloc, "phase\nshow s\n")?, 3);
+    Ok(())
+}
+
+#[test]
+fn lines_that_stand_for_no_graph(rt: HostRuntime) -> Result<(), Fail> {
+    let alloc = rt.alloc();
+    let (stop, line) = (4, "error source\n");
+    assert!(rt;
+        ends(
+            &rt,
+            alloc,
+            "once",
+            "source s inline\nv 1\nv 1\nend\n",
+            stop,
+            line
+        )?
+    );
+    assert!(rt;
+        ends(
+            &rt,
+            alloc,
+            "once",
+            "source s inline\nv 1\ne 1 1 1\ne 1 1 1\nend\n",
+            stop,
+            line
+        )?
+    );
+    assert!(rt;
+        ends(
+            &rt,
+            alloc,
+            "once",
+            "source s inline\nv 1\ne 1 1 2\nend\n",
+            stop,
+            line
+        )?
+    );
+    Ok(())
+}
