@@ -1,18 +1,15 @@
 -- A change of the edges that fits keeps a graph a graph.
-use Rattle.std.proofs.Common.{◌≡◌, ℕ, ℤ, zero, suc, ◌+◌, ◌<◌, ◌≤◌, Bool, true, false, ◌||◌, ◌&&◌, not, List, [], ◌∷◌, ◌++◌, Option, Some, None, length, get_or, set, slice_get, refl, ap, sym, ◌∙◌, subst, arith, All, nat_lt, ◌==◌, cond}
-use Rattle.std.specs.List.{list_any}
+use Rattle.std.proofs.Common.{◌≡◌, ℕ, ℤ, ◌+◌, ◌<◌, ◌≤◌, Bool, true, false, ◌||◌, not, List, [], None, length, get_or, refl, ap, ◌∙◌, subst, arith, nat_lt, ◌==◌, cond}
 use Rattle.std.specs.Ordering.{int_eq}
 use Rattle.std.proofs.lemmas.Bool.Decides.{nat_tests, Decides-int_eq}
 use Rattle.std.proofs.lemmas.List.{length-set}
-use Rattle.std.proofs.lemmas.List.Elements.{All-push, All-weaker, All-filter, All-map}
+use Rattle.std.proofs.lemmas.List.Elements.{All-push, All-filter, All-map}
 use Rattle.column_types.specs.declared.value.Value.{Value}
-use Rattle.column_types.specs.Value.{fits_kind}
-use Rattle.graph_schema.specs.declared.schema.Prop.{Prop}
 use Rattle.graph_schema.specs.declared.schema.EdgeTable.{EdgeTable}
 use Rattle.graph_model.specs.declared.row.VertexRow.{VertexRow}
 use Rattle.graph_model.specs.declared.row.EdgeRow.{EdgeRow}
 use Rattle.graph_model.specs.declared.change.Change.TheVariants.{InsertEdge, DeleteEdge, SetEdge}
-use Rattle.graph_model.specs.Keys.{rows_at, without_key, change_at_key}
+use Rattle.graph_model.specs.Keys.{rows_at}
 use Rattle.graph_model.specs.Graph.{GraphData, IsGraph, AreValues, AreEdges, IsEdge, edge_props_at, edge_table_props, source_at, destination_at, source_table, destination_table, edge_key, edge_values, has_edge, has_edge_in, has_vertex_in, kinds_fit, edge_total, cell_total, most_edges, most_cells}
 use Rattle.graph_model.specs.Change.{misfit, changed, kind_fits_at, with_edge_value}
 use Rattle.graph_model.proofs.Rows.{or_false, not_false, count_once, total_push, sum_push}

@@ -1,5 +1,5 @@
 -- Graphs without rows are graphs, and graphs stay graphs.
-use Rattle.std.proofs.Common.{◌≡◌, ℕ, ℤ, zero, suc, ◌+◌, ◌≤◌, List, [], ◌∷◌, ◌++◌, Option, Some, None, length, take, slice_get, replicate, refl, ap, sym, ◌∙◌, subst, arith, count_by, sum_by}
+use Rattle.std.proofs.Common.{◌≡◌, ℕ, zero, suc, ◌+◌, List, [], ◌∷◌, Option, Some, None, length, take, slice_get, refl, ap, ◌∙◌, arith, count_by, sum_by}
 use Rattle.std.specs.List.{fold}
 use Rattle.std.specs.Ordering.{int_eq}
 use Rattle.std.proofs.lemmas.List.Elements.{All-nil}
@@ -9,7 +9,7 @@ use Rattle.graph_model.specs.declared.row.EdgeRow.{EdgeRow}
 use Rattle.graph_model.specs.declared.change.Change.{Change}
 use Rattle.graph_model.specs.declared.change.Change.TheVariants.{InsertVertex, DeleteVertex, InsertEdge, DeleteEdge, SetVertex, SetEdge}
 use Rattle.graph_model.specs.declared.change.Why.{Why}
-use Rattle.graph_model.specs.Graph.{GraphData, IsGraph, AreValues, IsEdge, vertex_key, edge_key, vertex_values, edge_values, empty_graph}
+use Rattle.graph_model.specs.Graph.{GraphData, IsGraph, AreValues, IsEdge, vertex_values, edge_values, empty_graph}
 use Rattle.graph_model.specs.Change.{misfit, changed, changed_unless, apply, after}
 use Rattle.graph_model.proofs.Zips.{AllZip_empty}
 use Rattle.graph_model.proofs.Totals.{nothing}

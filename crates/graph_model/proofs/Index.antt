@@ -1,5 +1,5 @@
 -- What the index of the keys tells, and that it is kept.
-use Rattle.std.proofs.Common.{◌≡◌, ℕ, ℤ, zero, suc, ◌+◌, ◌-◌, ◌<◌, ◌≤◌, Bool, true, false, ◌||◌, not, List, [], ◌∷◌, ◌++◌, Option, Some, None, length, get_or, set, refl, ap, sym, ◌∙◌, subst, arith, nat_eq, cond, sum_by, count_by, filter, map, replicate, Result, Ok, Err, OnOk}
+use Rattle.std.proofs.Common.{◌≡◌, ℕ, ℤ, zero, suc, ◌+◌, ◌-◌, ◌<◌, ◌≤◌, Bool, true, false, not, List, [], ◌∷◌, ◌++◌, Option, Some, None, length, get_or, set, refl, ap, sym, ◌∙◌, subst, arith, nat_eq, cond, sum_by, count_by, map, replicate, Result, Ok, Err, OnOk}
 use Rattle.std.specs.List.{list_any}
 use Rattle.std.specs.Result.{is_err}
 use Rattle.std.specs.Ordering.{int_eq}
@@ -11,7 +11,7 @@ use Rattle.std.proofs.lemmas.List.Sums.{sum_by-set, get_or-le-sum_by}
 use Rattle.std.specs.Map.{lookup}
 use Rattle.column_types.specs.declared.value.Value.{Value}
 use Rattle.graph_model.specs.declared.tables.Place.{Place}
-use Rattle.graph_model.specs.Keys.{rows_at, has_key, has_key_in, key_count, row_total, value_total, without_key, change_at_key}
+use Rattle.graph_model.specs.Keys.{rows_at, has_key, has_key_in, key_count, without_key, change_at_key}
 use Rattle.graph_model.specs.Index.{StandsAt, Indexes, IsKept}
 use Rattle.graph_model.proofs.Rows.{one_table, one_at_least, rows_change, nowhere_after, nowhere_here, any_last, any_push_apart, any_given, any_filter_same, any_map, count_map, sum_map, count_once, count_filter_le, total_push, sum_push, gone, length_without}
 

@@ -1,5 +1,5 @@
 -- Tests on the rows of tables: what some row passes, and how many pass.
-use Rattle.std.proofs.Common.{◌≡◌, ℕ, zero, suc, ◌+◌, ◌<◌, ◌≤◌, Bool, true, false, ◌||◌, not, List, [], ◌∷◌, ◌++◌, Option, Some, None, length, get_or, set, slice_get, remove, take, drop, refl, ap, sym, ◌∙◌, arith, sum_by, count_by, cond, filter, map, nat_lt}
+use Rattle.std.proofs.Common.{◌≡◌, ℕ, zero, suc, ◌+◌, ◌<◌, ◌≤◌, Bool, true, false, ◌||◌, not, List, [], ◌∷◌, ◌++◌, Some, None, length, get_or, set, slice_get, remove, drop, refl, ap, sym, ◌∙◌, arith, sum_by, count_by, cond, filter, map}
 use Rattle.std.specs.List.{list_any, refill, position, position_or_len}
 use Rattle.std.proofs.lemmas.Bool.Decides.{nat_tests}
 use Rattle.std.proofs.lemmas.List.{length_push, take_at}

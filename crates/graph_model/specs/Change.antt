@@ -1,5 +1,5 @@
 -- Changes of graphs.
-use Rattle.std.specs.Prelude.{◌≡◌, ℕ, ◌+◌, ℤ, Bool, false, not, ◌||◌, ◌==◌, nat_lt, if◌then◌else◌, List, [], ◌∷◌, ◌++◌, length, slice_set, slice_get, take, fold, Option, Some, None, Result, Ok, Err}
+use Rattle.std.specs.Prelude.{◌≡◌, ℕ, ◌+◌, Bool, false, not, ◌||◌, ◌==◌, nat_lt, if◌then◌else◌, List, [], ◌∷◌, ◌++◌, length, slice_set, slice_get, take, fold, Option, Some, None, Result, Ok, Err}
 use Rattle.column_types.specs.declared.value.Value.{Value}
 use Rattle.column_types.specs.Value.{fits_kind}
 use Rattle.graph_schema.specs.declared.schema.Prop.{Prop}

@@ -1,10 +1,10 @@
 -- How a call ends after it stopped.
-use Rattle.std.proofs.Common.{◌≡◌, ◌⊎◌, ◌≤◌, ℕ, List, Option, Some, None, IsSome, IsSomeAnd, refl, sym, subst, inl, inr, arith}
+use Rattle.std.proofs.Common.{◌≡◌, ◌⊎◌, ◌≤◌, ℕ, List, Option, None, IsSome, refl, sym, subst, inl, inr, arith}
 use Rattle.std.specs.Io.KnownBytes.{Appends}
 use Rattle.pgx_io.specs.Causes.{Rose}
 use Rattle.pgx_io.specs.Whole.{AppendsFront}
 use Rattle.pgx_shell.specs.Causes.{StopCause, StopWrites}
-use Rattle.pgx_shell.specs.Texts.{Outcome, ActionOutcome, Wrote}
+use Rattle.pgx_shell.specs.Texts.{Outcome}
 use Rattle.pgx_shell.specs.Words.{form_of, IsUsage}
 use Rattle.pgx_shell.specs.Ending.{Ending, usage, done, stopped, EndingCause, Tells, StopTold, error_line, stop_status, ending_text, ending_status}
 use Rattle.pgx_shell.specs.declared.stop.Stop.{Stop}

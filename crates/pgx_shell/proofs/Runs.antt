@@ -1,11 +1,10 @@
 -- The records that the loops make are a run of the script.
-use Rattle.std.proofs.Common.{◌≡◌, ◌∙◌, ℕ, ◌+◌, List, [], ◌∷◌, ◌++◌, length, map, Option, Some, None, Ok, Err, IfSome, IsOkAnd, refl, sym, ap, subst, arith, append_assoc, length-append, ◌<◌, get_or, drop, flat_map}
-use Rattle.std.specs.Prelude.{⊤}
+use Rattle.std.proofs.Common.{◌≡◌, ◌∙◌, ℕ, ◌+◌, List, [], ◌∷◌, ◌++◌, length, map, Option, Some, None, Ok, IfSome, refl, sym, ap, subst, arith, append_assoc, length-append, ◌<◌, get_or, drop, flat_map}
 use Rattle.std.proofs.lemmas.List.{append-nil, drop_more}
 use Rattle.script_read.specs.declared.script.Script.{Script}
 use Rattle.pgx_shell.specs.Opening.{opened}
-use Rattle.pgx_shell.specs.Run.{Turn, record_of, run_from, turn_of, turns_of_phases, IsPlaced, ArePlaced, one, IsRunOf, reply_to}
-use Rattle.pgx_shell.specs.Due.{Run, IsRun, IsRunNamed, due, script_due}
+use Rattle.pgx_shell.specs.Run.{Turn, record_of, run_from, turn_of, turns_of_phases, IsPlaced, ArePlaced, one, IsRunOf}
+use Rattle.pgx_shell.specs.Due.{IsRun, IsRunNamed, script_due}
 use Rattle.pgx_shell.specs.declared.open.Opening.{Opening}
 use Rattle.pgx_shell.specs.declared.record.Record.{Record}
 

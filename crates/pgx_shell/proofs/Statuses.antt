@@ -1,13 +1,12 @@
 -- What each status of the program says, from how its call ended.
-use Rattle.std.proofs.Common.{◌≡◌, ◌≢◌, ◌⊎◌, ◌≤◌, ℕ, List, Option, Some, None, Ok, Err, IsOk, IsSome, IsSomeAnd, IfSome, is_ok, refl, sym, ap, inl, inr, arith, ◌∙◌}
+use Rattle.std.proofs.Common.{◌≡◌, ◌≢◌, ◌⊎◌, ℕ, List, Option, Some, None, Err, IsSome, IsSomeAnd, IfSome, sym, ap, inl, inr, arith, ◌∙◌}
 use Rattle.std.proofs.lemmas.Bool.{false≢true}
 use Rattle.std.specs.Io.KnownBytes.{Appends}
 use Rattle.pgx_io.specs.Whole.{AppendsFront}
-use Rattle.pgx_shell.specs.Causes.{StopCause}
 use Rattle.pgx_shell.specs.Due.{due}
-use Rattle.pgx_shell.specs.Texts.{Outcome, ActionOutcome, Wrote}
-use Rattle.pgx_shell.specs.Words.{form_of, IsUsage}
-use Rattle.pgx_shell.specs.Ending.{Ending, usage, done, stopped, EndingCause, Tells, error_line, stop_status, ending_text, ending_status}
+use Rattle.pgx_shell.specs.Texts.{Outcome, ActionOutcome}
+use Rattle.pgx_shell.specs.Words.{form_of}
+use Rattle.pgx_shell.specs.Ending.{Ending, usage, done, stopped, EndingCause, Tells, stop_status, ending_text, ending_status}
 use Rattle.pgx_shell.specs.Rows.{DidAll, SaidUsage, SaidStop, WroteFront, Accepts, Refuses}
 use Rattle.pgx_shell.specs.declared.words.Action.{Action}
 use Rattle.pgx_shell.specs.declared.words.Action.TheVariants.{Once}

@@ -1,5 +1,5 @@
 -- The graph that the lines of an inline source stand for.
-use Rattle.std.specs.Prelude.{◌≡◌, ◌↔◌, ℕ, ℤ, List, [], ◌∷◌, map, codes, Option, Some, None, IsSome, ⊤, option_and_then}
+use Rattle.std.specs.Prelude.{◌≡◌, ◌↔◌, ℤ, List, [], ◌∷◌, map, codes, Option, Some, None, IsSome, ⊤, option_and_then}
 use Rattle.graph_schema.specs.Schema.{SchemaData}
 use Rattle.graph_model.specs.declared.row.VertexRow.{VertexRow}
 use Rattle.graph_model.specs.declared.row.EdgeRow.{EdgeRow}

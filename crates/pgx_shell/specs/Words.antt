@@ -1,5 +1,5 @@
 -- The words of the command line.
-use Rattle.std.specs.Prelude.{◌≡◌, ◌+◌, ◌<◌, ◌≤◌, ℕ, List, [], ◌∷◌, ◌++◌, Option, Some, None, IsSome, is_some, if◌then◌else◌, codes, take, length}
+use Rattle.std.specs.Prelude.{◌+◌, ◌<◌, ◌≤◌, ℕ, List, [], ◌∷◌, ◌++◌, Option, Some, None, IsSome, is_some, if◌then◌else◌, codes, take, length}
 use Rattle.std.specs.Str.{bytes_eq}
 use Rattle.pgx_shell.specs.declared.words.Action.{Action}
 use Rattle.pgx_shell.specs.declared.words.Action.TheVariants.{Once}

@@ -1,8 +1,7 @@
-use Rattle.std.proofs.Common.{◌≡◌, ◌∙◌, ap, length, get_or, set, [], FitsSigned, w64}
+use Rattle.std.proofs.Common.{◌∙◌, ap, length, get_or, set, [], FitsSigned, w64}
 use Rattle.std.specs.List.{refill}
 use Rattle.std.proofs.lemmas.Int.{to_z-of_z}
 use Rattle.std.proofs.lemmas.List.{length-set}
-use Rattle.column_types.specs.declared.list.List.{List}
 use Rattle.graph_model.specs.Keys.{change_at_key}
 use Rattle.graph_model.proofs.Rows.{refill_same, within_same}
 use Rattle.graph_model.proofs.row.set_value_in.Goals as goal

@@ -1,4 +1,4 @@
-use Rattle.std.proofs.Common.{◌≡◌, take}
+use Rattle.std.proofs.Common.{take}
 use Rattle.graph_model.specs.Index.{Indexes}
 use Rattle.graph_model.proofs.tables.index_of.Given as goal
 

@@ -1,5 +1,4 @@
-use Rattle.std.proofs.Common.{◌≡◌, ◌++◌, ◌∷◌, [], take}
-use Rattle.graph_model.specs.Keys.{rows_at}
+use Rattle.std.proofs.Common.{◌++◌, ◌∷◌, [], take}
 use Rattle.graph_model.specs.Index.{Indexes}
 use Rattle.graph_model.proofs.tables.index_table.Given as goal
 

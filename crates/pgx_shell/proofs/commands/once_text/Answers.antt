@@ -1,6 +1,5 @@
 use Rattle.std.proofs.Common.{None, ap}
 use Rattle.pgx_shell.proofs.Runs.{run_is}
-use Rattle.pgx_shell.specs.Texts.{Outcome}
 use Rattle.pgx_shell.proofs.commands.once_text.Goals as goal
 
 pub returns-clause-text : goal.returns-clause-text

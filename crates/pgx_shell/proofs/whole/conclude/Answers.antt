@@ -1,7 +1,7 @@
-use Rattle.std.proofs.Common.{inl, inr, refl, sym, subst, map, string_bytes}
+use Rattle.std.proofs.Common.{inl, refl, sym, subst, map, string_bytes}
 use Rattle.pgx_io.specs.Causes.{Rose}
 use Rattle.pgx_shell.specs.Texts.{ActionOutcome}
-use Rattle.pgx_shell.specs.Ending.{Ending, done}
+use Rattle.pgx_shell.specs.Ending.{done}
 use Rattle.pgx_shell.specs.Words.{IsUsage}
 use Rattle.pgx_shell.proofs.Endings.{usage_cause, stopped_ends, rose_later, rose_earlier}
 use Rattle.pgx_shell.proofs.Usages.{usage_law}

@@ -1,5 +1,5 @@
 use Rattle.std.proofs.Common.{inl, inr, refl}
-use Rattle.pgx_shell.specs.Ending.{Ending, usage, stopped}
+use Rattle.pgx_shell.specs.Ending.{usage, stopped}
 use Rattle.pgx_shell.specs.declared.stop.Stop.TheVariants.{NoMemory}
 use Rattle.pgx_shell.proofs.whole.tell_usage.Goals as goal
 

@@ -1,4 +1,4 @@
-use Rattle.std.proofs.Common.{◌≡◌, None, length, arith, sym, subst, w64, FitsSigned}
+use Rattle.std.proofs.Common.{◌≡◌, None, arith, sym, subst, w64, FitsSigned}
 use Rattle.std.proofs.lemmas.Int.{to_z-of_z}
 use Rattle.graph_model.specs.declared.change.Change.TheVariants.{InsertVertex}
 use Rattle.graph_model.specs.Graph.{GraphData}

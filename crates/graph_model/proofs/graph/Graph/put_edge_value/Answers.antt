@@ -1,9 +1,8 @@
-use Rattle.std.proofs.Common.{◌≡◌, None, set, sym, ap, ◌∙◌, subst, w64, FitsSigned}
+use Rattle.std.proofs.Common.{◌≡◌, None, sym, ap, subst, w64, FitsSigned}
 use Rattle.std.proofs.lemmas.Int.{to_z-of_z}
 use Rattle.graph_model.specs.declared.change.Change.TheVariants.{SetEdge}
-use Rattle.graph_model.specs.Keys.{rows_at, change_at_key}
-use Rattle.graph_model.specs.Graph.{GraphData, edge_key}
-use Rattle.graph_model.specs.Change.{misfit, changed, with_edge_value}
+use Rattle.graph_model.specs.Graph.{GraphData}
+use Rattle.graph_model.specs.Change.{misfit, changed}
 use Rattle.graph_model.proofs.EdgeChanges.{fits_set, set_keeps}
 use Rattle.graph_model.proofs.graph.Graph.put_edge_value.Goals as goal
 

@@ -1,5 +1,3 @@
-use Rattle.std.proofs.Common.{sym, subst, replicate, []}
-use Rattle.graph_model.specs.Index.{IsKept}
 use Rattle.graph_model.proofs.Index.{empty_is_kept}
 use Rattle.graph_model.proofs.tables.Tables.empty.Goals as goal
 

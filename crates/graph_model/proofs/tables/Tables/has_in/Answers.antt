@@ -1,4 +1,4 @@
-use Rattle.std.proofs.Common.{◌≡◌, ◌∙◌, sym, ap, subst, FitsSigned, w64}
+use Rattle.std.proofs.Common.{◌∙◌, sym, ap, subst, FitsSigned, w64}
 use Rattle.std.proofs.lemmas.Int.{to_z-of_z}
 use Rattle.graph_model.specs.Keys.{has_key_in, rows_at}
 use Rattle.graph_model.specs.Index.{StandsAt}

@@ -1,4 +1,4 @@
-use Rattle.std.proofs.Common.{◌≡◌, ◌<◌, ◌∙◌, arith, rules, sym, ap, subst, length, set, [], FitsSigned, w64}
+use Rattle.std.proofs.Common.{◌<◌, ◌∙◌, arith, sym, ap, subst, length, set, [], FitsSigned, w64}
 use Rattle.std.proofs.lemmas.Int.{to_z-of_z}
 use Rattle.std.proofs.lemmas.List.Sums.{get_or-le-sum_by}
 use Rattle.graph_model.specs.Keys.{rows_at, count_in, change_at_key}
