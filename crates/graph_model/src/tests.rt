@@ -70,13 +70,21 @@ fn set_age(key: i64, age: i32) -> Change {
     }
 }
 
+fn make(
+    alloc: Global,
+    graph: &mut Graph,
+    change: Result<Change, NoMemory>,
+) -> Result<(), ApplyFault> {
+    graph.apply(alloc, &change?)
+}
+
 /// Persons 1, 2 and 3, of whom 1 knows 2 and 2 knows 3.
 fn people(alloc: Global) -> Result<Graph, ApplyFault> {
     let mut graph = empty_people(alloc)?;
-    graph.apply(alloc, &insert_vertex(alloc, 1, 30)?)?;
-    graph.apply(alloc, &insert_vertex(alloc, 2, 41)?)?;
+    make(alloc, &mut graph, insert_vertex(alloc, 1, 30))?;
+    make(alloc, &mut graph, insert_vertex(alloc, 2, 41))?;
     graph.insert_vertex(0, 3, one(alloc, Value::Null)?)?;
-    graph.apply(alloc, &insert_edge(alloc, 10, 1, 2)?)?;
+    make(alloc, &mut graph, insert_edge(alloc, 10, 1, 2))?;
     graph.insert_edge(0, 11, 2, 3, one(alloc, Value::Null)?)?;
     Ok(graph)
 }
@@ -87,51 +95,57 @@ fn changes_that_do_not_fit_are_told(rt: HostRuntime) -> Result<(), Fail> {
     let alloc = rt.alloc();
     let mut graph = people(alloc)?;
     let with_edges = Change::DeleteVertex { table: 0, key: 1 };
-    assert_eq!(rt;
-        graph.apply(alloc, &with_edges),
-        Err(ApplyFault::Misfit(Why::HasEdges))
-    );
-    let taken = insert_vertex(alloc, 1, 5)?;
-    assert_eq!(rt;
-        graph.apply(alloc, &taken),
-        Err(ApplyFault::Misfit(Why::KeyTaken))
-    );
-    let missing = set_age(7, 1);
-    assert_eq!(rt;
-        graph.apply(alloc, &missing),
-        Err(ApplyFault::Misfit(Why::KeyMissing))
-    );
+    let fault = make(alloc, &mut graph, Ok(with_edges));
+    assert_eq!(rt; fault, Err(ApplyFault::Misfit(Why::HasEdges)));
+    let fault = make(alloc, &mut graph, insert_vertex(alloc, 1, 5));
+    assert_eq!(rt; fault, Err(ApplyFault::Misfit(Why::KeyTaken)));
+    let fault = make(alloc, &mut graph, Ok(set_age(7, 1)));
+    assert_eq!(rt; fault, Err(ApplyFault::Misfit(Why::KeyMissing)));
     assert_eq!(rt; (graph.vertex_count(), graph.edge_count()), (3, 2));
     Ok(())
 }
 
-/// A vertex that is inserted and deleted leaves the graph, and each other change is made.
+/// A vertex that is inserted and deleted leaves the graph, and each other change of vertices is made.
 #[test]
-fn changes_that_fit_are_made(rt: HostRuntime) -> Result<(), Fail> {
+fn changes_of_vertices_are_made(rt: HostRuntime) -> Result<(), Fail> {
     let alloc = rt.alloc();
     let mut graph = people(alloc)?;
-    graph.apply(alloc, &insert_vertex(alloc, 9, 50)?)?;
-    graph.apply(alloc, &Change::DeleteVertex { table: 0, key: 9 })?;
+    make(alloc, &mut graph, insert_vertex(alloc, 9, 50))?;
+    make(
+        alloc,
+        &mut graph,
+        Ok(Change::DeleteVertex { table: 0, key: 9 }),
+    )?;
+    make(alloc, &mut graph, Ok(set_age(3, 31)))?;
     assert_eq!(rt; graph.vertex_count(), 3);
-    graph.apply(alloc, &Change::DeleteEdge { table: 0, key: 10 })?;
-    graph.apply(alloc, &Change::DeleteVertex { table: 0, key: 1 })?;
-    graph.apply(alloc, &set_age(3, 31))?;
+    let ages: [(i64, i32); 3] = [(1, 30), (2, 41), (3, 31)];
+    for (row, (key, age)) in graph.vertex_rows(0).iter().zip(ages.iter()) {
+        assert_eq!(rt; row.key, *key);
+        assert_eq!(rt; row.values, one(alloc, Value::Integer(*age))?);
+    }
+    Ok(())
+}
+
+#[test]
+fn changes_of_edges_are_made(rt: HostRuntime) -> Result<(), Fail> {
+    let alloc = rt.alloc();
+    let mut graph = people(alloc)?;
+    make(
+        alloc,
+        &mut graph,
+        Ok(Change::DeleteEdge { table: 0, key: 10 }),
+    )?;
     let weight = Change::SetEdge {
         table: 0,
         key: 11,
         prop: 0,
         value: Value::Integer(7),
     };
-    graph.apply(alloc, &weight)?;
-    let ages: [(i64, i32); 2] = [(2, 41), (3, 31)];
-    for (row, (key, age)) in graph.vertex_rows(0).iter().zip(ages.iter()) {
-        assert_eq!(rt; row.key, *key);
-        assert_eq!(rt; row.values, one(alloc, Value::Integer(*age))?);
-    }
+    make(alloc, &mut graph, Ok(weight))?;
+    assert_eq!(rt; graph.edge_count(), 1);
     for row in graph.edge_rows(0) {
         assert_eq!(rt; (row.key, row.source, row.destination), (11, 2, 3));
         assert_eq!(rt; row.values, one(alloc, Value::Integer(7))?);
     }
-    assert_eq!(rt; (graph.vertex_count(), graph.edge_count()), (2, 1));
     Ok(())
 }

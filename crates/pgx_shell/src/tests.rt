@@ -70,7 +70,8 @@ fn show_inline_source(rt: HostRuntime) -> Result<(), Fail> {
 
 #[test]
 fn show_unknown_source(rt: HostRuntime) -> Result<(), Fail> {
-    let script = "source s inline\nv 1\nend\nphase\nactor a\nshow x\n";
+    let script =
+        "source s inline\nv 1\nv 2\ne 10 1 2\ne 11 1 2\ne 12 2 2\nend\nphase\nactor a\nshow x\n";
     let text = "[0.1 a] show x\n  refused 19 NoSource x\n";
     assert!(rt; ends(&rt, rt.alloc(), "once", script, 0, text)?);
     Ok(())
