@@ -109,6 +109,7 @@ impl Library for MemLibrary {
         ensures counted { self.new.calls ≡ one_more self.old.calls }
         ensures failed { IsErrOf result Failed → self.new.faults ≡ one_more self.old.faults }
         ensures fine { OnOk result (self.new.faults ≡ self.old.faults) }
+        ensures no_memory { IsErrOf result GetFault.NoMemory → self.new.faults ≡ self.old.faults }
         ensures kept { (self.new.files ≡ self.old.files) × (self.new.fails ≡ self.old.fails) }
     {
         self.calls = self.calls.saturating_add(1);
