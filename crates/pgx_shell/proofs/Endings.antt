@@ -6,9 +6,9 @@ use Rattle.pgx_io.specs.Whole.{AppendsFront}
 use Rattle.pgx_shell.specs.Causes.{StopCause, StopWrites}
 use Rattle.pgx_shell.specs.Texts.{Outcome}
 use Rattle.pgx_shell.specs.Words.{form_of, IsUsage}
-use Rattle.pgx_shell.specs.Ending.{Ending, usage, done, stopped, EndingCause, Tells, StopTold, error_line, stop_status, ending_text, ending_status}
+use Rattle.pgx_shell.specs.Ending.{Ending, usage, done, stopped, EndingCause, Tells, StopTold, LineTold, error_line, stop_status, ending_text, ending_status}
 use Rattle.pgx_shell.specs.declared.stop.Stop.{Stop}
-use Rattle.pgx_shell.specs.declared.stop.Stop.TheVariants.{BadScript, BadSource, ReadFault, WriteFault, NoMemory}
+use Rattle.pgx_shell.specs.declared.stop.Stop.TheVariants.{TooLong, BadLine, BadSource, ReadFault, WriteFault, NoMemory}
 
 pub rose_later : (a b c : ℕ) → Rose a b → b ≤ c → Rose a c
 rose_later a b c r l = omega arith
@@ -24,8 +24,9 @@ tells_from old mid new writing since text status code e f (inr p) = inr (p.0, f 
 
 -- any stop but a fault in writing has its line told
 pub line_told : (old new : Option (List ℕ)) (writing : Type 0) (stop : Stop) (code : ℕ) → (stop ≡ WriteFault → ⊥)
-    → Tells old new writing (error_line stop) (stop_status stop) code → StopTold old new writing stop code
-line_told old new writing BadScript code not_write tells = tells
+    → LineTold old new writing stop code → StopTold old new writing stop code
+line_told old new writing TooLong code not_write tells = tells
+line_told old new writing (BadLine line why) code not_write tells = tells
 line_told old new writing BadSource code not_write tells = tells
 line_told old new writing ReadFault code not_write tells = tells
 line_told old new writing WriteFault code not_write tells = absurd (not_write refl)
@@ -41,15 +42,16 @@ module _ (words : List (List ℕ)) (rest : Option (List ℕ)) (reading : Type 0)
   abbrev pub Ends : Type 0
   Ends = (ending : Ending) × EndingCause words rest reading ending × Tells old new writing (ending_text ending) (ending_status ending) code
 
-  -- the line of a stop was told
-  said_ends : (stop : Stop) → EndingCause words rest reading (stopped stop) → mid ≡ old → (since → writing)
-      → Tells mid new since (error_line stop) (stop_status stop) code → Ends
-  said_ends stop cause e f tells = (stopped stop, cause, tells_from old mid new writing since (error_line stop) (stop_status stop) code e f tells)
+  -- the line of a stop was told, or that there is no memory for it
+  said_ends : (stop : Stop) → EndingCause words rest reading (stopped stop) → mid ≡ old → (since → writing) → LineTold mid new since stop code → Ends
+  said_ends stop cause e f (inl tells) = (stopped stop, cause, tells_from old mid new writing since (error_line stop) (stop_status stop) code e f tells)
+  said_ends stop cause e f (inr tells) = (stopped NoMemory, tt, tells_from old mid new writing since (error_line NoMemory) (stop_status NoMemory) code e f tells)
 
   -- the stop of a command, told
   pub stopped_ends : (stop : Stop) → IsSome (form_of words) → ((outcome : Outcome) → IsOutcome outcome → EndingCause words rest reading (done outcome))
       → (before → writing) → (since → writing) → StopCause rest reading before stop → StopWrites IsOutcome old mid stop → StopTold mid new since stop code → Ends
-  stopped_ends BadScript form good b f cause left tells = said_ends BadScript (form, cause) left f tells
+  stopped_ends TooLong form good b f cause left tells = said_ends TooLong (form, cause) left f tells
+  stopped_ends (BadLine line why) form good b f cause left tells = said_ends (BadLine line why) (form, cause) left f tells
   stopped_ends BadSource form good b f cause left tells = said_ends BadSource (form, cause) left f tells
   stopped_ends ReadFault form good b f cause left tells = said_ends ReadFault (form, cause) left f tells
   stopped_ends WriteFault form good b f cause left tells =

@@ -1,7 +1,8 @@
 pub mod Endings
 pub mod Usages
 pub mod Statuses
-pub mod Runs
 pub mod Lines
 pub mod Answered
 pub mod Applying
+pub mod Names
+pub mod Scripts

@@ -7,11 +7,11 @@ use Rattle.pgx_shell.specs.Due.{due}
 use Rattle.pgx_shell.specs.Texts.{Outcome, ActionOutcome}
 use Rattle.pgx_shell.specs.Words.{form_of}
 use Rattle.pgx_shell.specs.Ending.{Ending, usage, done, stopped, EndingCause, Tells, stop_status, ending_text, ending_status}
-use Rattle.pgx_shell.specs.Rows.{DidAll, SaidUsage, SaidStop, WroteFront, Accepts, Refuses}
+use Rattle.pgx_shell.specs.Rows.{DidAll, SaidUsage, SaidScript, SaidStop, WroteFront, Accepts, Refuses}
 use Rattle.pgx_shell.specs.declared.words.Action.{Action}
 use Rattle.pgx_shell.specs.declared.words.Action.TheVariants.{Once}
 use Rattle.pgx_shell.specs.declared.stop.Stop.{Stop}
-use Rattle.pgx_shell.specs.declared.stop.Stop.TheVariants.{BadScript, BadSource, ReadFault, WriteFault, NoMemory}
+use Rattle.pgx_shell.specs.declared.stop.Stop.TheVariants.{TooLong, BadLine, BadSource, ReadFault, WriteFault, NoMemory}
 
 -- what is refused is not accepted
 not_accepted : (rest : Option (List ℕ)) (stop : Stop) → IfSome rest (λ bytes. due bytes ≡ Err stop) → Accepts rest → ⊥
@@ -52,7 +52,8 @@ module _ (words : List (List ℕ)) (rest : Option (List ℕ)) (reading : Type 0)
   pub row_done : (ending : Ending) → EndingCause words rest reading ending → Told ending → code ≡ 0 → DidAll words rest old new
   row_done (usage place) cause tells e = absurd (unlike 0 (omega arith) (usage place) tells e (omega arith))
   row_done (done outcome) cause tells e = some_and (form_of words) _ _ (λ action due. (outcome, due, (whole_at 0 (omega arith) (done outcome) tells e).1)) cause
-  row_done (stopped BadScript) cause tells e = absurd (unlike 0 (omega arith) (stopped BadScript) tells e (omega arith))
+  row_done (stopped TooLong) cause tells e = absurd (unlike 0 (omega arith) (stopped TooLong) tells e (omega arith))
+  row_done (stopped (BadLine line why)) cause tells e = absurd (unlike 0 (omega arith) (stopped (BadLine line why)) tells e (omega arith))
   row_done (stopped BadSource) cause tells e = absurd (unlike 0 (omega arith) (stopped BadSource) tells e (omega arith))
   row_done (stopped ReadFault) cause tells e = absurd (unlike 0 (omega arith) (stopped ReadFault) tells e (omega arith))
   row_done (stopped WriteFault) cause tells e = absurd cause.1
@@ -61,16 +62,18 @@ module _ (words : List (List ℕ)) (rest : Option (List ℕ)) (reading : Type 0)
   pub row_usage : (ending : Ending) → EndingCause words rest reading ending → Told ending → code ≡ 2 → SaidUsage words old new
   row_usage (usage place) cause tells e = (cause.0, (place, cause.1, (whole_at 2 (omega arith) (usage place) tells e).1))
   row_usage (done outcome) cause tells e = absurd (unlike 2 (omega arith) (done outcome) tells e (omega arith))
-  row_usage (stopped BadScript) cause tells e = absurd (unlike 2 (omega arith) (stopped BadScript) tells e (omega arith))
+  row_usage (stopped TooLong) cause tells e = absurd (unlike 2 (omega arith) (stopped TooLong) tells e (omega arith))
+  row_usage (stopped (BadLine line why)) cause tells e = absurd (unlike 2 (omega arith) (stopped (BadLine line why)) tells e (omega arith))
   row_usage (stopped BadSource) cause tells e = absurd (unlike 2 (omega arith) (stopped BadSource) tells e (omega arith))
   row_usage (stopped ReadFault) cause tells e = absurd (unlike 2 (omega arith) (stopped ReadFault) tells e (omega arith))
   row_usage (stopped WriteFault) cause tells e = absurd cause.1
   row_usage (stopped NoMemory) cause tells e = absurd (unlike 2 (omega arith) (stopped NoMemory) tells e (omega arith))
 
-  pub row_script : (ending : Ending) → EndingCause words rest reading ending → Told ending → code ≡ 3 → SaidStop rest BadScript old new
+  pub row_script : (ending : Ending) → EndingCause words rest reading ending → Told ending → code ≡ 3 → SaidScript rest old new
   row_script (usage place) cause tells e = absurd (unlike 3 (omega arith) (usage place) tells e (omega arith))
   row_script (done outcome) cause tells e = absurd (unlike 3 (omega arith) (done outcome) tells e (omega arith))
-  row_script (stopped BadScript) cause tells e = (cause.1, (whole_at 3 (omega arith) (stopped BadScript) tells e).1)
+  row_script (stopped TooLong) cause tells e = inl (cause.1, (whole_at 3 (omega arith) (stopped TooLong) tells e).1)
+  row_script (stopped (BadLine line why)) cause tells e = inr (line, why, (cause.1, (whole_at 3 (omega arith) (stopped (BadLine line why)) tells e).1))
   row_script (stopped BadSource) cause tells e = absurd (unlike 3 (omega arith) (stopped BadSource) tells e (omega arith))
   row_script (stopped ReadFault) cause tells e = absurd (unlike 3 (omega arith) (stopped ReadFault) tells e (omega arith))
   row_script (stopped WriteFault) cause tells e = absurd cause.1
@@ -79,7 +82,8 @@ module _ (words : List (List ℕ)) (rest : Option (List ℕ)) (reading : Type 0)
   pub row_source : (ending : Ending) → EndingCause words rest reading ending → Told ending → code ≡ 4 → SaidStop rest BadSource old new
   row_source (usage place) cause tells e = absurd (unlike 4 (omega arith) (usage place) tells e (omega arith))
   row_source (done outcome) cause tells e = absurd (unlike 4 (omega arith) (done outcome) tells e (omega arith))
-  row_source (stopped BadScript) cause tells e = absurd (unlike 4 (omega arith) (stopped BadScript) tells e (omega arith))
+  row_source (stopped TooLong) cause tells e = absurd (unlike 4 (omega arith) (stopped TooLong) tells e (omega arith))
+  row_source (stopped (BadLine line why)) cause tells e = absurd (unlike 4 (omega arith) (stopped (BadLine line why)) tells e (omega arith))
   row_source (stopped BadSource) cause tells e = (cause.1, (whole_at 4 (omega arith) (stopped BadSource) tells e).1)
   row_source (stopped ReadFault) cause tells e = absurd (unlike 4 (omega arith) (stopped ReadFault) tells e (omega arith))
   row_source (stopped WriteFault) cause tells e = absurd cause.1
@@ -88,7 +92,8 @@ module _ (words : List (List ℕ)) (rest : Option (List ℕ)) (reading : Type 0)
   pub row_read : (ending : Ending) → EndingCause words rest reading ending → Told ending → code ≡ 6 → reading
   row_read (usage place) cause tells e = absurd (unlike 6 (omega arith) (usage place) tells e (omega arith))
   row_read (done outcome) cause tells e = absurd (unlike 6 (omega arith) (done outcome) tells e (omega arith))
-  row_read (stopped BadScript) cause tells e = absurd (unlike 6 (omega arith) (stopped BadScript) tells e (omega arith))
+  row_read (stopped TooLong) cause tells e = absurd (unlike 6 (omega arith) (stopped TooLong) tells e (omega arith))
+  row_read (stopped (BadLine line why)) cause tells e = absurd (unlike 6 (omega arith) (stopped (BadLine line why)) tells e (omega arith))
   row_read (stopped BadSource) cause tells e = absurd (unlike 6 (omega arith) (stopped BadSource) tells e (omega arith))
   row_read (stopped ReadFault) cause tells e = cause.1
   row_read (stopped WriteFault) cause tells e = absurd cause.1
@@ -105,7 +110,8 @@ module _ (words : List (List ℕ)) (rest : Option (List ℕ)) (reading : Type 0)
   pub row_front : (ending : Ending) → EndingCause words rest reading ending → Told ending → code ≡ 7 → writing × WroteFront words rest reading old new
   row_front (usage place) cause tells e = front (usage place) (omega arith) cause tells e
   row_front (done outcome) cause tells e = front (done outcome) (omega arith) cause tells e
-  row_front (stopped BadScript) cause tells e = front (stopped BadScript) (omega arith) cause tells e
+  row_front (stopped TooLong) cause tells e = front (stopped TooLong) (omega arith) cause tells e
+  row_front (stopped (BadLine line why)) cause tells e = front (stopped (BadLine line why)) (omega arith) cause tells e
   row_front (stopped BadSource) cause tells e = front (stopped BadSource) (omega arith) cause tells e
   row_front (stopped ReadFault) cause tells e = front (stopped ReadFault) (omega arith) cause tells e
   row_front (stopped WriteFault) cause tells e = absurd cause.1
@@ -120,7 +126,8 @@ module _ (words : List (List ℕ)) (rest : Option (List ℕ)) (reading : Type 0)
   pub row_complete : (ending : Ending) → EndingCause words rest reading ending → Told ending → IsSome (form_of words) → Accepts rest → (reading → ⊥) → (writing → ⊥) → (code ≡ 0) ⊎ (code ≡ 5)
   row_complete (usage place) cause tells form ok read sure = absurd (false≢true (rw cause.0 at form))
   row_complete (done outcome) cause tells form ok read sure = inl (no_front (done outcome) sure tells)
-  row_complete (stopped BadScript) cause tells form ok read sure = absurd (not_accepted rest BadScript cause.1 ok)
+  row_complete (stopped TooLong) cause tells form ok read sure = absurd (not_accepted rest TooLong cause.1 ok)
+  row_complete (stopped (BadLine line why)) cause tells form ok read sure = absurd (not_accepted rest (BadLine line why) cause.1 ok)
   row_complete (stopped BadSource) cause tells form ok read sure = absurd (not_accepted rest BadSource cause.1 ok)
   row_complete (stopped ReadFault) cause tells form ok read sure = absurd (read cause.1)
   row_complete (stopped WriteFault) cause tells form ok read sure = absurd cause.1
@@ -130,8 +137,10 @@ module _ (words : List (List ℕ)) (rest : Option (List ℕ)) (reading : Type 0)
   pub row_refused : (ending : Ending) → EndingCause words rest reading ending → Told ending → (stop : Stop) → IsSome (form_of words) → Refuses rest stop → (reading → ⊥) → (writing → ⊥) → (code ≡ stop_status stop) ⊎ (code ≡ 5)
   row_refused (usage place) cause tells stop form refused read sure = absurd (false≢true (rw cause.0 at form))
   row_refused (done outcome) cause tells stop form refused read sure = absurd (some_not (form_of words) _ (λ action due. not_done action rest outcome stop due refused) cause)
-  row_refused (stopped BadScript) cause tells stop form refused read sure =
-      inl (no_front (stopped BadScript) sure tells ∙ ap stop_status (same_stop rest BadScript stop cause.1 refused))
+  row_refused (stopped TooLong) cause tells stop form refused read sure =
+      inl (no_front (stopped TooLong) sure tells ∙ ap stop_status (same_stop rest TooLong stop cause.1 refused))
+  row_refused (stopped (BadLine line why)) cause tells stop form refused read sure =
+      inl (no_front (stopped (BadLine line why)) sure tells ∙ ap stop_status (same_stop rest (BadLine line why) stop cause.1 refused))
   row_refused (stopped BadSource) cause tells stop form refused read sure =
       inl (no_front (stopped BadSource) sure tells ∙ ap stop_status (same_stop rest BadSource stop cause.1 refused))
   row_refused (stopped ReadFault) cause tells stop form refused read sure = absurd (read cause.1)

@@ -6,19 +6,35 @@ use Rattle.pgx_io.specs.Whole.{AppendsFront}
 use Rattle.pgx_shell.specs.Causes.{StopCause}
 use Rattle.pgx_shell.specs.Texts.{Outcome, ActionOutcome}
 use Rattle.pgx_shell.specs.Words.{form_of, IsUsage}
+use Rattle.script_read.specs.declared.fault.LineWhy.{LineWhy}
+use Rattle.script_read.specs.declared.fault.LineWhy.TheVariants as why
 use Rattle.pgx_shell.specs.declared.stop.Stop.{Stop}
-use Rattle.pgx_shell.specs.declared.stop.Stop.TheVariants.{BadScript, BadSource, ReadFault, WriteFault, NoMemory}
+use Rattle.pgx_shell.specs.declared.stop.Stop.TheVariants.{TooLong, BadLine, BadSource, ReadFault, WriteFault, NoMemory}
+
+-- the word of a line's fault
+abbrev pub why_text : LineWhy → List ℕ
+why_text why.Utf8 = codes "utf8"
+why_text why.Word = codes "word"
+why_text why.Later = codes "later"
+why_text why.Form = codes "form"
+why_text why.Name = codes "name"
+why_text why.Number = codes "number"
+why_text why.Twice = codes "twice"
+why_text why.Many = codes "many"
+why_text why.End = codes "end"
 
 -- the line that is written for a stop
 abbrev pub error_line : Stop → List ℕ
-error_line BadScript = codes "error script\n"
+error_line TooLong = codes "error script longer than 16777216 bytes\n"
+error_line (BadLine line why) = codes "error line " ++ decimal line ++ codes " fault 47 " ++ why_text why ++ codes "\n"
 error_line BadSource = codes "error source\n"
 error_line ReadFault = codes "error read fault\n"
 error_line WriteFault = []
 error_line NoMemory = codes "error no memory\n"
 
 abbrev pub stop_status : Stop → ℕ
-stop_status BadScript = 3
+stop_status TooLong = 3
+stop_status (BadLine line why) = 3
 stop_status BadSource = 4
 stop_status NoMemory = 5
 stop_status ReadFault = 6
@@ -52,7 +68,12 @@ EndingCause words rest reading (stopped stop) = IsSome (form_of words) × StopCa
 abbrev pub Tells : Option (List ℕ) → Option (List ℕ) → Type 0 → List ℕ → ℕ → ℕ → Type 0
 Tells old new writing text status code = ((code ≡ status) × Appends old new text) ⊎ ((code ≡ 7) × writing × AppendsFront old new text)
 
--- What ending a call does after a stop: nothing after a fault in writing, else it writes the line of the stop.
+-- The line of a stop is told, or, where there is no memory for it, that there is none.
+abbrev pub LineTold : Option (List ℕ) → Option (List ℕ) → Type 0 → Stop → ℕ → Type 0
+LineTold old new writing stop code =
+    Tells old new writing (error_line stop) (stop_status stop) code ⊎ Tells old new writing (error_line NoMemory) (stop_status NoMemory) code
+
+-- What ending a call does after a stop: nothing after a fault in writing, else it tells the line of the stop.
 abbrev pub StopTold : Option (List ℕ) → Option (List ℕ) → Type 0 → Stop → ℕ → Type 0
 StopTold old new writing WriteFault code = (code ≡ 7) × (new ≡ old)
-StopTold old new writing stop code = Tells old new writing (error_line stop) (stop_status stop) code
+StopTold old new writing stop code = LineTold old new writing stop code

@@ -1,94 +1,44 @@
--- Running a script on one thread.
-use Rattle.std.specs.Prelude.{◌≡◌, ℕ, ◌+◌, List, [], ◌∷◌, ◌++◌, length, map, find, Option, Some, None, ⊤}
-use Rattle.std.specs.List.{flat_map}
-use Rattle.std.specs.Str.{bytes_eq}
+-- What a run of a script is.
+use Rattle.std.specs.Prelude.{◌≡◌, ℕ, ◌+◌, ◌≤◌, zero, suc, List, [], ◌∷◌, length, Option, Some, None}
+use Rattle.turn_hall.specs.declared.entry.Entry.{Entry}
+use Rattle.actor_records.specs.Journal.{IsJournal}
+use Rattle.catalogue.specs.Bound.{opened}
+use Rattle.catalogue.specs.declared.ask.Ask.{Ask}
+use Rattle.catalogue.specs.declared.reply.Reply.{Reply}
+use Rattle.catalogue.specs.declared.parts.SourceData.{SourceData}
+use Rattle.catalogue_hall.specs.declared.held.Named.{Named}
+use Rattle.catalogue_hall.specs.History.{History}
 use Rattle.script_read.specs.declared.script.Block.{Block}
-use Rattle.script_read.specs.declared.script.Command.{Command}
-use Rattle.script_read.specs.declared.script.Form.{Form}
-use Rattle.script_read.specs.declared.script.Form.TheVariants.{Show}
 use Rattle.script_read.specs.declared.script.Script.{Script}
-use Rattle.pgx_shell.specs.declared.open.Opening.{Opening}
-use Rattle.pgx_shell.specs.declared.record.Did.{Did}
-use Rattle.pgx_shell.specs.declared.record.Did.TheVariants.{Local}
-use Rattle.pgx_shell.specs.declared.record.LocalReply.{LocalReply}
-use Rattle.pgx_shell.specs.declared.record.LocalReply.TheVariants.{Rows, Refused}
-use Rattle.pgx_shell.specs.declared.record.Refusal.TheVariants.{NoSource}
-use Rattle.pgx_shell.specs.declared.record.Record.{Record}
+use Rattle.session_run.specs.Own.{OwnPart, fresh_own}
+use Rattle.session_run.specs.Language.{ActorMind, rules, first_mind}
+use Rattle.session_run.specs.Turns.{ActorRecord, worked}
+use Rattle.session_run.specs.Ran.{Ran}
 
--- ---- replies
+-- an actor has no command left
+abbrev pub HasNoCommand : ActorMind → Type 0
+HasNoCommand mind = mind.todo ≡ []
 
-abbrev pub shown : List ℕ → Option Opening → LocalReply
-shown name None = Refused (NoSource name)
-shown name (Some opening) = Rows opening.graph
+-- J is the journal of a run of the script over its open sources: a proper journal of its actors, in which each makes exactly the
+-- calls of its commands, with the replies of one thread from the state in which the sources are open and nobody has a session.
+-- Each phase ended after so many core calls, and the core calls of a phase stand between the end of the one before and its own.
+pub record IsRunOf (script : Script) (sources : List SourceData) (J : List ActorRecord) : Type 0 where
+  pub ends : ℕ → ℕ
+  pub rises : (phase : ℕ) → ends phase ≤ ends (phase + 1)
+  pub history : List (Entry Ask Reply)
+  pub journal : IsJournal (rules sources ends) (opened sources) (first_mind script.phases) HasNoCommand (length script.actors) history J
 
-abbrev pub form_reply : List Opening → Form → LocalReply
-form_reply openings (Show name) = shown name (find (λ opening. bytes_eq opening.name name) openings)
+-- a script of one phase, which ends after all calls that a run can make
+abbrev pub one_phase : ℕ → ℕ
+one_phase zero = 0
+one_phase (suc phase) = 33554432
 
--- the reply to a command: the rows of the source's opening graph, or that no source has the name
-abbrev pub reply_to : List Opening → Command → LocalReply
-reply_to openings command = form_reply openings command.form
+-- the block of a script that has one
+abbrev pub only_block : List (List Block) → Option Block
+only_block ((block ∷ []) ∷ []) = Some block
+only_block _ = None
 
--- ---- turns
-
--- an actor and a command of its own
-abbrev pub Turn : Type 0
-Turn = ℕ × Command
-
-abbrev pub turns_of_block : ℕ → List Command → List Turn
-turns_of_block who commands = map (λ command. (who, command)) commands
-
-abbrev pub turns_of_blocks : List Block → List Turn
-turns_of_blocks blocks = flat_map (λ block. turns_of_block block.actor block.commands) blocks
-
--- the commands of a script in their order: by phase, by block, by command
-abbrev pub turns_of_phases : List (List Block) → List Turn
-turns_of_phases phases = flat_map turns_of_blocks phases
-
--- ---- records
-
--- the record of a turn that comes after so many
-abbrev pub record_of : List Opening → List Record → Turn → Record
-record_of openings done turn = record {
-  number = None;
-  after = 0;
-  index = length done + 1;
-  who = turn.0;
-  did = Local turn.1 (reply_to openings turn.1);
-}
-
--- the records so far, and one for each turn
-abbrev pub run_from : List Opening → List Record → List Turn → List Record
-run_from openings done [] = done
-run_from openings done (turn ∷ turns) = run_from openings (done ++ record_of openings done turn ∷ []) turns
-
--- ---- what a run is, in words of its own
-
-abbrev pub did_turn : ℕ → Did → Turn
-did_turn who (Local command reply) = (who, command)
-
-abbrev pub turn_of : Record → Turn
-turn_of r = did_turn r.who r.did
-
--- a record that stands after n others of its actor, none of which is a core record
-pub record IsPlaced (n : ℕ) (r : Record) : Type 0 where
-  pub number : r.number ≡ None
-  pub after : r.after ≡ 0
-  pub index : r.index ≡ n + 1
-
-abbrev pub ArePlaced : ℕ → List Record → Type 0
-ArePlaced n [] = ⊤
-ArePlaced n (r ∷ rs) = IsPlaced n r × ArePlaced (n + 1) rs
-
-abbrev pub done_again : List Opening → Did → Did
-done_again openings (Local command reply) = Local command (reply_to openings command)
-
--- the records with the replies of one thread
-abbrev pub one : List Opening → List Record → List Record
-one openings records = map {A = Record} (λ r. record r { did = done_again openings r.did }) records
-
--- the records are a run of the script over its open sources: each command once and in order, counted from 1, with the
--- replies of one thread. A script of this grammar has at most one actor, so all records are of one.
-pub record IsRunOf (script : Script) (openings : List Opening) (records : List Record) : Type 0 where
-  pub proper : map turn_of records ≡ turns_of_phases script.phases
-  pub placed : ArePlaced 0 records
-  pub replies : records ≡ one openings records
+-- an actor that had done nothing did the commands of its block
+abbrev pub HasRun : Block → History → History → List ActorRecord → Type 0
+HasRun block before after records =
+    (held : List Named) × (own : OwnPart) × Ran block.actor block.commands (worked before [] fresh_own []) (worked after held own records)

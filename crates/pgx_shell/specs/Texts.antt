@@ -3,7 +3,7 @@ use Rattle.std.specs.Prelude.{◌≡◌, ℕ, List, Option, None, IfSome}
 use Rattle.std.specs.Io.KnownBytes.{Appends}
 use Rattle.pgx_shell.specs.Due.{IsRun}
 use Rattle.pgx_shell.specs.Journal.{journal_text}
-use Rattle.pgx_shell.specs.declared.record.Record.{Record}
+use Rattle.session_run.specs.Turns.{ActorRecord}
 use Rattle.pgx_shell.specs.declared.words.Action.{Action}
 use Rattle.pgx_shell.specs.declared.words.Action.TheVariants.{Once}
 
@@ -11,13 +11,13 @@ use Rattle.pgx_shell.specs.declared.words.Action.TheVariants.{Once}
 -- that its book holds
 pub record Outcome : Type 0 where
   pub text : List ℕ
-  pub book : Option (List Record)
+  pub book : Option (List ActorRecord)
 
 -- the outcome of `once`: the journal of a run of the script, without a book
 abbrev pub OnceOutcome : Option (List ℕ) → Outcome → Type 0
 OnceOutcome rest outcome =
-    (names : List (List ℕ)) × (records : List Record) × IfSome rest (IsRun names records)
-    × (outcome ≡ record { text = journal_text names records; book = None })
+    (names : List (List ℕ)) × (J : List ActorRecord) × IfSome rest (IsRun names J)
+    × (outcome ≡ record { text = journal_text names J; book = None })
 
 -- the outcome of what the words ask for
 abbrev pub ActionOutcome : Action → Option (List ℕ) → Outcome → Type 0

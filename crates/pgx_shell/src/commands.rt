@@ -1,18 +1,18 @@
 //! The command `once`.
-ghost use Rattle.std.specs.Prelude.{◌≡◌, ◌≤◌, ◌<◌, ◌^◌, IfOk, IfErr, OnOk, IfSome, Ok, None, length};
+ghost use Rattle.std.specs.Prelude.{◌≡◌, ◌≤◌, IfOk, IfErr, OnOk, IfSome, Ok, None};
 ghost use Rattle.std.specs.Io.KnownBytes.{Appends, IsAtEnd};
 ghost use Rattle.pgx_io.specs.Causes.{Rose};
 ghost use Rattle.pgx_io.specs.Whole.{AppendsFront};
 ghost use Rattle.pgx_shell.specs.Due.{script_due};
-ghost use Rattle.pgx_shell.specs.Run.{turns_of_phases};
+ghost use Rattle.script_read.specs.Meaning.{IsScript};
 ghost use Rattle.pgx_shell.specs.Causes.{ScriptCause, StopCause, StopWrites};
 ghost use Rattle.pgx_shell.specs.Texts.{OnceOutcome, Wrote};
 
 use crate::Stop;
 use crate::open::open_sources;
 use crate::printing::journal;
-use crate::run::run_phases;
-use column_types::{List, Text};
+use crate::run::run_script;
+use column_types::Text;
 use pgx_io::{Library, ReadAllFault, Sink, Source, read_all, write_all};
 use script_read::{Script, ScriptFault, read_script};
 use std::alloc::Global;
@@ -52,7 +52,7 @@ pub fn once<R: Threads + Sync, S: Source, L: Library, K: Sink>(
 fn once_text<R: Threads + Sync, S: Source>(
     rt: &R,
     alloc: Global,
-    _workers: u32,
+    workers: u32,
     src: &mut S,
 ) -> Result<Text, Stop>
     ensures read { OnOk result (IsAtEnd (S.rest src.new)) }
@@ -61,14 +61,8 @@ fn once_text<R: Threads + Sync, S: Source>(
     ensures later { S.faults src.old ≤ S.faults src.new }
 {
     let script = read_source(alloc, src)?;
-    let openings = open_sources(alloc, script.sources.as_slice())?;
-    let mut records = List::new(alloc);
-    run_phases(
-        alloc,
-        openings.as_slice(),
-        script.phases.as_slice(),
-        &mut records,
-    )?;
+    let sources = open_sources(rt, alloc, script.sources.as_slice())?;
+    let records = run_script(rt, alloc, &script, sources, workers)?;
     Ok(journal(rt, alloc, records.as_slice(), script.actors.as_slice())?)
 }
 
@@ -88,20 +82,20 @@ fn write_text<K: Sink>(out: &mut K, text: &str) -> Result<Done, Stop>
 /// Reads a source to its end, and its script.
 fn read_source<S: Source>(alloc: Global, src: &mut S) -> Result<Script, Stop>
     ensures ok { IfOk result (λ script. IfSome (S.rest src.old) (λ bytes. script_due bytes ≡ Ok script)) }
-    ensures few { IfOk result (λ script. length (turns_of_phases script.phases) < 2 ^ 32) }
+    ensures script { IfOk result IsScript }
     ensures end { OnOk result (IsAtEnd (S.rest src.new)) }
     ensures cause { IfErr result (ScriptCause (S.rest src.old) (Rose (S.faults src.old) (S.faults src.new))) }
     ensures later { S.faults src.old ≤ S.faults src.new }
 {
     let bytes = match read_all(alloc, src) {
         Ok(bytes) => bytes,
-        Err(ReadAllFault::TooLong) => return Err(Stop::BadScript),
+        Err(ReadAllFault::TooLong) => return Err(Stop::TooLong),
         Err(ReadAllFault::Failed) => return Err(Stop::ReadFault),
         Err(ReadAllFault::NoMemory) => return Err(Stop::NoMemory),
     };
     match read_script(alloc, bytes.as_slice()) {
         Ok(script) => Ok(script),
-        Err(ScriptFault::BadLine { .. }) => Err(Stop::BadScript),
+        Err(ScriptFault::BadLine { line, why }) => Err(Stop::BadLine { line, why }),
         Err(ScriptFault::NoMemory) => Err(Stop::NoMemory),
     }
 }

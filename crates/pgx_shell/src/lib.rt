@@ -9,7 +9,6 @@ mod inline;
 mod laws;
 mod open;
 mod printing;
-mod record;
 mod run;
 mod stop;
 #[cfg(test)]
@@ -20,9 +19,7 @@ mod words;
 pub use commands::{Done, once};
 pub use inline::inline_graph;
 pub use laws::inline_lines_stand_for_a_graph;
-pub use open::Opening;
 pub use printing::journal;
-pub use record::{Did, LocalReply, Record, Refusal};
 pub use stop::Stop;
 pub use whole::{Status, top};
 pub use words::Action;

@@ -1,10 +1,11 @@
 //! The text of the journal.
-ghost use Rattle.std.specs.Prelude.{◌≡◌, ◌++◌, IfOk, OnOk, List, ℕ};
-ghost use Rattle.pgx_shell.specs.Journal.{journal_text, record_text, reply_text, refusal_text, no_source_text, head_text, name_of};
+ghost use Rattle.std.specs.Prelude.{◌≡◌, ◌++◌, IfOk, OnOk};
+ghost use Rattle.pgx_shell.specs.Journal.{journal_text, record_text, did_text, local_text, head_text, place_text, name_of};
 
-use crate::record::{Did, LocalReply, Record, Refusal};
+use call_text::{push_ask, push_refusal, push_reply, push_starved};
 use column_types::{NoMemory, Text};
 use graph_text::{graph_text, push_count};
+use session_run::{Did, LocalReply, Record};
 use std::alloc::Global;
 use std::thread::Threads;
 
@@ -33,11 +34,28 @@ fn push_record(
     ensures { OnOk result (text.new ≡ text.old ++ record_text names.now entry.now) }
 {
     push_head(text, entry, names)?;
-    match &entry.did {
+    push_did(alloc, text, &entry.did)
+}
+
+/// Appends the call or the command, and its reply lines.
+fn push_did(alloc: Global, text: &mut Text, did: &Did) -> Result<(), NoMemory>
+    ensures { OnOk result (text.new ≡ text.old ++ did_text did.now) }
+{
+    match did {
+        Did::Core(ask, reply) => {
+            push_ask(text, ask)?;
+            text.push("\n")?;
+            push_reply(text, reply)?;
+        }
         Did::Local(command, reply) => {
             text.push(command.line.as_str())?;
             text.push("\n")?;
-            push_reply(alloc, text, reply)?;
+            push_local(alloc, text, reply)?;
+        }
+        Did::Starved(head) => {
+            text.push(head.as_str())?;
+            text.push("\n")?;
+            push_starved(text)?;
         }
     }
     Ok(())
@@ -48,13 +66,24 @@ fn push_head(text: &mut Text, entry: &Record, names: &[Text]) -> Result<(), NoMe
     ensures { OnOk result (text.new ≡ text.old ++ head_text names.now entry.now) }
 {
     text.push("[")?;
-    push_count(text, entry.after)?;
-    text.push(".")?;
-    push_count(text, u64::from(entry.index))?;
+    push_place(text, entry.number, entry.after, entry.index)?;
     text.push(" ")?;
     text.push(name_of(names, entry.who))?;
     text.push("] ")?;
     Ok(())
+}
+
+fn push_place(text: &mut Text, number: Option<u64>, after: u64, index: u32) -> Result<(), NoMemory>
+    ensures { OnOk result (text.new ≡ text.old ++ place_text number after index) }
+{
+    match number {
+        Some(number) => push_count(text, number),
+        None => {
+            push_count(text, after)?;
+            text.push(".")?;
+            push_count(text, u64::from(index))
+        }
+    }
 }
 
 /// The name of an actor, counted from 1; empty for a number past the last.
@@ -67,29 +96,16 @@ fn name_of(names: &[Text], who: u32) -> &str
     }
 }
 
-fn push_reply(alloc: Global, text: &mut Text, reply: &LocalReply) -> Result<(), NoMemory>
-    ensures { OnOk result (text.new ≡ text.old ++ reply_text reply.now) }
+/// Appends the reply lines of a local command.
+fn push_local(alloc: Global, text: &mut Text, reply: &LocalReply) -> Result<(), NoMemory>
+    ensures { OnOk result (text.new ≡ text.old ++ local_text reply.now) }
 {
     match reply {
-        LocalReply::Rows(graph) => text.push(graph_text(alloc, graph.get())?.as_str())?,
-        LocalReply::Refused(refusal) => push_refusal(text, refusal)?,
+        LocalReply::Done => text.push("  ok\n"),
+        LocalReply::Rows(snapshot) => {
+            let graph = snapshot.to_graph(alloc)?;
+            text.push(graph_text(alloc, &graph)?.as_str())
+        }
+        LocalReply::Refused(refusal) => push_refusal(text, refusal),
     }
-    Ok(())
-}
-
-fn push_refusal(text: &mut Text, refusal: &Refusal) -> Result<(), NoMemory>
-    ensures { OnOk result (text.new ≡ text.old ++ refusal_text refusal.now) }
-{
-    match refusal {
-        Refusal::NoSource(name) => push_no_source(text, name.as_str()),
-    }
-}
-
-fn push_no_source(text: &mut Text, name: &str) -> Result<(), NoMemory>
-    ensures { OnOk result (text.new ≡ text.old ++ no_source_text name.now) }
-{
-    text.push("  refused 19 NoSource ")?;
-    text.push(name)?;
-    text.push("\n")?;
-    Ok(())
 }

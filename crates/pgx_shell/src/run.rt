@@ -1,114 +1,86 @@
-//! Running a script's commands one after another.
-ghost use Rattle.std.specs.Prelude.{◌≡◌, ◌+◌, ◌<◌, ◌^◌, length, map, find, IfOk, OnOk};
+//! Running a script on one thread.
+ghost use Rattle.std.specs.Prelude.{◌≡◌, ◌≤◌, [], length, Ok, IfOk};
 ghost use Rattle.std.specs.Option.{option_copied};
-ghost use Rattle.std.specs.Str.{bytes_eq};
-ghost use Rattle.pgx_shell.specs.Run.{reply_to, shown, run_from, turns_of_phases, turns_of_blocks, turns_of_block};
+ghost use Rattle.script_read.specs.Meaning.{IsScript};
+ghost use Rattle.session_run.specs.Own.{fresh_own};
+ghost use Rattle.session_run.specs.Turns.{worked};
+ghost use Rattle.session_run.specs.Ran.{IsAtWork};
+ghost use Rattle.pgx_shell.specs.Opening.{opened};
+ghost use Rattle.pgx_shell.specs.Run.{IsRunOf, only_block, HasRun};
 
-use crate::open::Opening;
-use crate::record::{Did, LocalReply, Record, Refusal};
-use column_types::{List, NoMemory, Text};
-use script_read::{Block, Command, Form};
+use actor_records::walk_records;
+use catalogue::SourceData;
+use catalogue_hall::{Alone, Held};
+use column_types::{List, NoMemory, Shared};
+use script_read::{Block, Script};
+use session_run::{Own, Record, run_alone};
 use std::alloc::Global;
+use std::thread::Threads;
 
-/// Runs the phases of a script, and appends a record for each command.
-pub(crate) fn run_phases(
+/// Runs a script over its open sources: the commands of its actor in order, and then the records in the order of the journal.
+pub(crate) fn run_script<R: Threads + Sync>(
+    rt: &R,
     alloc: Global,
-    openings: &[Opening],
-    phases: &[List<Block>],
-    records: &mut List<Record>,
-) -> Result<(), NoMemory>
-    requires { length records.old + length (turns_of_phases phases.now) < 2 ^ 32 }
-    ensures { OnOk result (records.new ≡ run_from openings.now records.old (turns_of_phases phases.now)) }
+    script: &Script,
+    sources: List<Shared<SourceData>>,
+    workers: u32,
+) -> Result<List<Record>, NoMemory>
+    requires script { IsScript script.now }
+    requires opened { opened script.now.sources ≡ Ok sources }
+    ensures { IfOk result (λ J. IsRunOf script.now sources J) }
 {
-    for phase in phases {
-        run_blocks(alloc, openings, phase.as_slice(), records)?;
-    }
-    Ok(())
-}
-
-fn run_blocks(
-    alloc: Global,
-    openings: &[Opening],
-    blocks: &[Block],
-    records: &mut List<Record>,
-) -> Result<(), NoMemory>
-    requires { length records.old + length (turns_of_blocks blocks.now) < 2 ^ 32 }
-    ensures { OnOk result (records.new ≡ run_from openings.now records.old (turns_of_blocks blocks.now)) }
-{
-    for block in blocks {
-        run_commands(
-            alloc,
-            openings,
-            block.actor,
-            block.commands.as_slice(),
-            records,
-        )?;
-    }
-    Ok(())
-}
-
-fn run_commands(
-    alloc: Global,
-    openings: &[Opening],
-    who: u32,
-    commands: &[Command],
-    records: &mut List<Record>,
-) -> Result<(), NoMemory>
-    requires { length records.old + length commands.now < 2 ^ 32 }
-    ensures { OnOk result (records.new ≡ run_from openings.now records.old (turns_of_block who commands.now)) }
-{
-    for command in commands {
-        let index = records.len() as u32 + 1;
-        let reply = reply(alloc, openings, command)?;
-        let did = Did::Local(copy_command(alloc, command)?, reply);
-        records.push(Record {
-            number: None,
-            after: 0,
-            index,
-            who,
-            did,
-        })?;
-    }
-    Ok(())
-}
-
-/// The reply to one command.
-fn reply(alloc: Global, openings: &[Opening], command: &Command) -> Result<LocalReply, NoMemory>
-    ensures { IfOk result (λ reply. reply ≡ reply_to openings.now command.now) }
-{
-    match &command.form {
-        Form::Show(name) => show(alloc, openings, name.as_str()),
-    }
-}
-
-/// The rows of the source of this name, or that no source has it.
-fn show(alloc: Global, openings: &[Opening], name: &str) -> Result<LocalReply, NoMemory>
-    ensures { IfOk result (λ reply. reply ≡ shown name.now (find (λ opening. bytes_eq opening.name name.now) openings.now)) }
-{
-    match find_opening(openings, name) {
-        Some(opening) => Ok(LocalReply::Rows(opening.graph.share()?)),
-        None => {
-            let name = Text::from_str(alloc, name)?;
-            Ok(LocalReply::Refused(Refusal::NoSource(name)))
-        }
-    }
-}
-
-/// The first source of this name.
-fn find_opening<'a>(openings: &'a [Opening], name: &str) -> Option<&'a Opening>
-    ensures { option_copied result ≡ find (λ opening. bytes_eq opening.name name.now) openings.now }
-{
-    openings
-        .iter()
-        .find(|opening| opening.name.as_str() == name)
-}
-
-fn copy_command(alloc: Global, command: &Command) -> Result<Command, NoMemory>
-    ensures { IfOk result (λ copy. copy ≡ command.now) }
-{
-    let form = match &command.form {
-        Form::Show(name) => Form::Show(Text::from_str(alloc, name.as_str())?),
+    let mut alone = Alone::new(alloc, sources)?;
+    let mut parts = List::new(alloc);
+    let Some(block) = only_block(script) else {
+        let journal = walk_records(alloc, alone.book(), parts)?;
+        return Ok(journal);
     };
-    let line = Text::from_str(alloc, command.line.as_str())?;
-    Ok(Command { line, form })
+    let records = run_block(&mut alone, rt, alloc, block, workers)?;
+    parts.push(records)?;
+    alone.sound();
+    let journal = walk_records(alloc, alone.book(), parts)?;
+    Ok(journal)
+}
+
+/// The block of a script that has one.
+fn only_block(script: &Script) -> Option<&Block>
+    ensures { option_copied result ≡ only_block script.now.phases }
+{
+    match script.phases.as_slice() {
+        [blocks] => match blocks.as_slice() {
+            [block] => Some(block),
+            _ => None,
+        },
+        _ => None,
+    }
+}
+
+/// Runs a block of an actor that has done nothing, before any other call.
+fn run_block<R: Threads + Sync>(
+    alone: &mut Alone,
+    rt: &R,
+    alloc: Global,
+    block: &Block,
+    workers: u32,
+) -> Result<List<Record>, NoMemory>
+    requires work { IsAtWork block.now.actor (worked alone.old [] fresh_own []) }
+    requires first { alone.old.book ≡ [] }
+    requires few { length block.now.commands ≤ 65536 }
+    ensures { IfOk result (λ records. HasRun block.now alone.old alone.new records) }
+{
+    let mut held = Held::new(alloc);
+    let mut own = Own::new(alloc);
+    let mut records = List::new(alloc);
+    run_alone(
+        alone,
+        rt,
+        alloc,
+        block.actor,
+        &mut held,
+        &mut own,
+        block.commands.as_slice(),
+        workers,
+        &mut records,
+    )?;
+    Ok(records)
 }

@@ -3,14 +3,18 @@ ghost use Rattle.std.specs.Prelude.{◌≡◌};
 
 use column_types::NoMemory;
 use graph_model::ApplyFault;
+use script_read::LineWhy;
 use thiserror::Error;
 
 /// Why a command did not write its whole text. Its cause is told by `StopCause`, and what was written by `StopWrites`.
 #[derive(Clone, Copy, Debug, PartialEq, Eq, Error)]
 pub enum Stop {
-    /// The script has more than 16,777,216 bytes, or a line at fault.
-    #[error("the script is outside the grammar")]
-    BadScript,
+    /// The script has more than 16,777,216 bytes.
+    #[error("the script is longer than 16,777,216 bytes")]
+    TooLong,
+    /// The first line of the script that is at fault, counted from 1, and its first fault.
+    #[error("a line of the script has a fault")]
+    BadLine { line: u64, why: LineWhy },
     /// The lines of a source stand for no graph.
     #[error("a source stands for no graph")]
     BadSource,

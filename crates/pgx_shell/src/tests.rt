@@ -78,6 +78,52 @@ fn show_unknown_source(rt: HostRuntime) -> Result<(), Fail> {
 }
 
 #[test]
+fn clone_outlives_its_base(rt: HostRuntime) -> Result<(), Fail> {
+    let script =
+        "source s inline\nv 1\nv 2\ne 10 1 2\ne 11 1 2\ne 12 2 2\nend\nphase\nactor a\nopen\nload g from s\nclone h from g\nrelease g\ncolumns\nrelease h\ncolumns\n";
+    let text =
+        "[1 a] open\n  ok\n[2 a] peek s\n  ok front 0\n[3 a] place g from s at 0\n  ok sid 1\n[4 a] derive h from g by clone\n  ok sid 2\n[5 a] release g\n  ok\n[6 a] columns\n  ok 1 2 3 4 5 6\n[7 a] release h\n  ok\n[8 a] columns\n  ok\n";
+    assert!(rt; ends(&rt, rt.alloc(), "once", script, 0, text)?);
+    Ok(())
+}
+
+#[test]
+fn refused_loads_opens_and_feeds(rt: HostRuntime) -> Result<(), Fail> {
+    let script = "source s inline\nend\nphase\nactor a\nload g from x\nload g from s\nopen\nopen\n";
+    let text =
+        "[1 a] peek x\n  refused 19 NoSource x\n[2 a] peek s\n  ok front 0\n[3 a] place g from s at 0\n  refused 48 NotOpen\n[4 a] open\n  ok\n[5 a] open\n  refused 49 AlreadyOpen\n";
+    assert!(rt; ends(&rt, rt.alloc(), "once", script, 0, text)?);
+    Ok(())
+}
+
+/// A local command stands behind its actor's last core record, and counts from there.
+#[test]
+fn local_commands_stand_behind_core_records(rt: HostRuntime) -> Result<(), Fail> {
+    let script =
+        "source s inline\nv 7\nend\nphase\nactor a\nrows g\nshow s\nopen\nload g from s\nrows g\nrows h\nclose\n";
+    let text =
+        "[0.1 a] rows g\n  refused 23 NoName g\n[0.2 a] show s\n  ok 1 0\n  v V 7\n  out V 7:\n  in V 7:\n[1 a] open\n  ok\n[2 a] peek s\n  ok front 0\n[3 a] place g from s at 0\n  ok sid 1\n[3.1 a] rows g\n  ok 1 0\n  v V 7\n  out V 7:\n  in V 7:\n[3.2 a] rows h\n  refused 23 NoName h\n[4 a] close\n  ok\n";
+    assert!(rt; ends(&rt, rt.alloc(), "once", script, 0, text)?);
+    Ok(())
+}
+
+#[test]
+fn phase_inside_inline_source(rt: HostRuntime) -> Result<(), Fail> {
+    let script = "source s inline\nv 1\nphase\n";
+    assert!(rt;
+        ends(
+            &rt,
+            rt.alloc(),
+            "once",
+            script,
+            3,
+            "error line 3 fault 47 word\n"
+        )?
+    );
+    Ok(())
+}
+
+#[test]
 fn usage_names_the_word(rt: HostRuntime) -> Result<(), Fail> {
     assert!(rt; ends(&rt, rt.alloc(), "", SHOW_S, 2, "usage 0\n")?);
     assert!(rt; ends(&rt, rt.alloc(), "twice", SHOW_S, 2, "usage 0\n")?);
@@ -96,7 +142,7 @@ fn failing_sink_and_source(rt: HostRuntime) -> Result<(), Fail> {
     Ok(())
 }
 
-/// The status of `once` over a script: 0 accepted, 3 outside the grammar, 4 no graph.
+/// The status of `once` over a script: 0 accepted, 3 outside the grammar.
 fn status<R: Threads + Sync>(rt: &R, alloc: Global, script: &str) -> Result<u8, Fail> {
     let (status, _) = run(rt, alloc, "once", script, &[], &[])?;
     Ok(status.code)
@@ -126,18 +172,62 @@ fn accepted_scripts(rt: HostRuntime) -> Result<(), Fail> {
     Ok(())
 }
 
+/// Whether a script ends with the error line of this line and word.
+fn bad<R: Threads + Sync>(rt: &R, alloc: Global, script: &str, line: &str) -> Result<bool, Fail> {
+    ends(rt, alloc, "once", script, 3, line)
+}
+
 #[test]
-fn scripts_outside_the_grammar(rt: HostRuntime) -> Result<(), Fail> {
+fn lines_at_fault_are_named(rt: HostRuntime) -> Result<(), Fail> {
     let alloc = rt.alloc();
-    assert_eq!(rt; status(&rt, alloc, "phase\nactor a\nshow  \n")?, 3);
-    assert_eq!(rt; status(&rt, alloc, "source s inline\nv 1\nphase\n")?, 3);
-    assert_eq!(rt; status(&rt, alloc, "source s inline\nv 1\n")?, 3);
-    assert_eq!(rt; status(&rt, alloc, "source s inline\nv 01\nend\n")?, 3);
-    assert_eq!(rt;
-        status(&rt, alloc, "source s inline\ne 1 1 1\nv 1\nend\n")?,
-        3
+    assert!(rt;
+        bad(
+            &rt,
+            alloc,
+            "phase\nactor a\nshow  \n",
+            "error line 3 fault 47 form\n"
+        )?
     );
-    assert_eq!(rt; status(&rt, alloc, "phase\nshow s\n")?, 3);
+    assert!(rt;
+        bad(
+            &rt,
+            alloc,
+            "source s inline\nv 1\n",
+            "error line 3 fault 47 end\n"
+        )?
+    );
+    assert!(rt;
+        bad(
+            &rt,
+            alloc,
+            "source s inline\nv 01\nend\n",
+            "error line 2 fault 47 number\n"
+        )?
+    );
+    assert!(rt;
+        bad(
+            &rt,
+            alloc,
+            "phase\nactor 1\n",
+            "error line 2 fault 47 name\n"
+        )?
+    );
+    assert!(rt;
+        bad(
+            &rt,
+            alloc,
+            "phase\nactor a\ntick\n",
+            "error line 3 fault 47 later\n"
+        )?
+    );
+    assert!(rt;
+        bad(
+            &rt,
+            alloc,
+            "source s inline\nend\nsource s inline\n",
+            "error line 3 fault 47 twice\n"
+        )?
+    );
     Ok(())
 }
 

@@ -4,9 +4,9 @@ ghost use Rattle.std.specs.Fmt.{decimal};
 ghost use Rattle.pgx_io.specs.Causes.{Rose};
 ghost use Rattle.pgx_shell.specs.Causes.{StopCause, StopWrites};
 ghost use Rattle.pgx_shell.specs.Texts.{Outcome, ActionOutcome, Wrote};
-ghost use Rattle.pgx_shell.specs.Ending.{Ending, usage, stopped, EndingCause, Tells, StopTold, ending_text, ending_status, error_line, stop_status};
+ghost use Rattle.pgx_shell.specs.Ending.{Ending, usage, stopped, EndingCause, Tells, StopTold, LineTold, why_text, ending_text, ending_status, error_line, stop_status};
 ghost use Rattle.pgx_shell.specs.Words.{form_of};
-ghost use Rattle.pgx_shell.specs.Rows.{DidAll, SaidUsage, SaidStop, WroteFront, Accepts, Refuses};
+ghost use Rattle.pgx_shell.specs.Rows.{DidAll, SaidUsage, SaidScript, SaidStop, WroteFront, Accepts, Refuses};
 ghost use Rattle.pgx_shell.specs.declared.stop.Stop.{Stop};
 
 use crate::words::read_words;
@@ -14,10 +14,13 @@ use crate::{Action, Done, Stop, once};
 use column_types::{NoMemory, Text};
 use graph_text::push_count;
 use pgx_io::{Gate, Library, Sink, Source, write_all};
+use script_read::LineWhy;
 use std::alloc::Global;
 use std::thread::Threads;
 
-/// How the program ended: 0 done; 2 the words are no form; 3 the script is outside the grammar; 4 a source stands for no
+const NO_MEMORY_LINE: &str = "error no memory\n";
+
+/// How the program ended: 0 done; 2 the words are no form; 3 the script is too long or outside the grammar; 4 a source stands for no
 /// graph; 5 out of memory; 6 the outside could not be read; 7 the outside could not be written.
 #[derive(Clone, Copy, Debug, PartialEq, Eq)]
 pub struct Status {
@@ -44,7 +47,7 @@ pub fn top<R: Threads + Sync, S: Source, L: Library, K: Sink, G: Gate>(
     ensures done { result.code ≡ 0
         → DidAll (map string_bytes words.now) (S.rest src.old) (K.taken out.old) (K.taken out.new) }
     ensures usage { result.code ≡ 2 → SaidUsage (map string_bytes words.now) (K.taken out.old) (K.taken out.new) }
-    ensures script { result.code ≡ 3 → SaidStop (S.rest src.old) Stop.BadScript (K.taken out.old) (K.taken out.new) }
+    ensures script { result.code ≡ 3 → SaidScript (S.rest src.old) (K.taken out.old) (K.taken out.new) }
     ensures source { result.code ≡ 4 → SaidStop (S.rest src.old) Stop.BadSource (K.taken out.old) (K.taken out.new) }
     ensures read_fault { result.code ≡ 6 → Rose (S.faults src.old) (S.faults src.new) }
     ensures write_fault { result.code ≡ 7 → Rose (K.faults out.old) (K.faults out.new)
@@ -83,7 +86,7 @@ fn conclude<R: Threads + Sync, S: Source, L: Library, K: Sink>(
     };
     match act(rt, alloc, action, src, lib, out) {
         Ok(_) => Status { code: 0 },
-        Err(stop) => tell_stop(stop, out),
+        Err(stop) => tell_stop(alloc, stop, out),
     }
 }
 
@@ -108,13 +111,24 @@ fn act<R: Threads + Sync, S: Source, L: Library, K: Sink>(
 }
 
 /// Ends a call that stopped. After a fault in writing nothing more is written.
-fn tell_stop<K: Sink>(stop: Stop, out: &mut K) -> Status
+fn tell_stop<K: Sink>(alloc: Global, stop: Stop, out: &mut K) -> Status
     ensures told { StopTold (K.taken out.old) (K.taken out.new) (Rose (K.faults out.old) (K.faults out.new)) stop result.code }
     ensures later { K.faults out.old ≤ K.faults out.new }
 {
     match stop {
         Stop::WriteFault => Status { code: 7 },
-        other => tell(out, error_text(other), status_of(other)),
+        other => tell_line(alloc, other, out),
+    }
+}
+
+/// Writes the line of a stop, or that there is no memory for it.
+fn tell_line<K: Sink>(alloc: Global, stop: Stop, out: &mut K) -> Status
+    ensures told { LineTold (K.taken out.old) (K.taken out.new) (Rose (K.faults out.old) (K.faults out.new)) stop result.code }
+    ensures later { K.faults out.old ≤ K.faults out.new }
+{
+    match error_text(alloc, stop) {
+        Ok(text) => tell(out, text.as_str(), status_of(stop)),
+        Err(_) => tell(out, NO_MEMORY_LINE, 5),
     }
 }
 
@@ -126,7 +140,7 @@ fn tell_usage<K: Sink>(alloc: Global, place: u64, out: &mut K) -> Status
 {
     match usage_text(alloc, place) {
         Ok(text) => tell(out, text.as_str(), 2),
-        Err(_) => tell(out, error_text(Stop::NoMemory), 5),
+        Err(_) => tell(out, NO_MEMORY_LINE, 5),
     }
 }
 
@@ -145,7 +159,7 @@ fn status_of(stop: Stop) -> u8
     ensures { result ≡ stop_status stop }
 {
     match stop {
-        Stop::BadScript => 3,
+        Stop::TooLong | Stop::BadLine { .. } => 3,
         Stop::BadSource => 4,
         Stop::NoMemory => 5,
         Stop::ReadFault => 6,
@@ -163,14 +177,43 @@ fn usage_text(alloc: Global, place: u64) -> Result<Text, NoMemory>
 }
 
 /// The line for a stop.
-fn error_text(stop: Stop) -> &'static str
-    ensures { result.now ≡ error_line stop }
+fn error_text(alloc: Global, stop: Stop) -> Result<Text, NoMemory>
+    ensures { IfOk result (λ text. text ≡ error_line stop) }
 {
     match stop {
-        Stop::BadScript => "error script\n",
-        Stop::BadSource => "error source\n",
-        Stop::ReadFault => "error read fault\n",
-        Stop::WriteFault => "",
-        Stop::NoMemory => "error no memory\n",
+        Stop::TooLong => Text::from_str(alloc, "error script longer than 16777216 bytes\n"),
+        Stop::BadLine { line, why } => line_text(alloc, line, why),
+        Stop::BadSource => Text::from_str(alloc, "error source\n"),
+        Stop::ReadFault => Text::from_str(alloc, "error read fault\n"),
+        Stop::WriteFault => Ok(Text::new(alloc)),
+        Stop::NoMemory => Text::from_str(alloc, NO_MEMORY_LINE),
+    }
+}
+
+/// The line for a line of the script that is at fault.
+fn line_text(alloc: Global, line: u64, why: LineWhy) -> Result<Text, NoMemory>
+    ensures { IfOk result (λ text. text ≡ error_line (Stop.BadLine line why)) }
+{
+    let mut text = Text::from_str(alloc, "error line ")?;
+    push_count(&mut text, line)?;
+    text.push(" fault 47 ")?;
+    text.push(why_word(why))?;
+    text.push("\n")?;
+    Ok(text)
+}
+
+fn why_word(why: LineWhy) -> &'static str
+    ensures { result.now ≡ why_text why }
+{
+    match why {
+        LineWhy::Utf8 => "utf8",
+        LineWhy::Word => "word",
+        LineWhy::Later => "later",
+        LineWhy::Form => "form",
+        LineWhy::Name => "name",
+        LineWhy::Number => "number",
+        LineWhy::Twice => "twice",
+        LineWhy::Many => "many",
+        LineWhy::End => "end",
     }
 }

@@ -1,17 +1,25 @@
 -- A fault that is found is the first.
-use Rattle.std.proofs.Common.{◌≡◌, refl, ℕ, suc, ◌+◌, ◌-◌, List, [], ◌∷◌, take, drop, Result, Ok, Err, arith}
+use Rattle.std.proofs.Common.{◌≡◌, ◌∙◌, sym, refl, ap, ℕ, suc, ◌+◌, ◌-◌, List, [], ◌∷◌, take, drop, Some, Result, Ok, Err, arith}
 use Rattle.std.proofs.Math.Logic.{◌⊎◌, inl, inr}
-use Rattle.std.specs.Prelude.{IfErr, ⊤}
+use Rattle.std.specs.Prelude.{IfErr}
+use Rattle.std.specs.Result.{result_err}
 use Rattle.script_read.specs.declared.fault.LineWhy.{LineWhy}
+use Rattle.script_read.specs.declared.fault.LineWhy.TheVariants.{End}
 use Rattle.script_read.specs.declared.fault.ScriptFault.{ScriptFault}
 use Rattle.script_read.specs.declared.fault.ScriptFault.TheVariants.{BadLine, NoMemory}
+use Rattle.script_read.specs.declared.reading.Place.{Place}
+use Rattle.script_read.specs.declared.reading.Place.TheVariants as place
 use Rattle.script_read.specs.declared.reading.Reading.{Reading}
 use Rattle.script_read.specs.declared.script.Block.{Block}
+use Rattle.script_read.specs.declared.script.Command.{Command}
 use Rattle.script_read.specs.declared.script.Script.{Script}
 use Rattle.script_read.specs.Lines.{lines_of, cleaned, line_step}
 use Rattle.script_read.specs.Script.{opening, phases_at, ended, lines_read, script_of, ReadsScript}
-use Rattle.script_read.specs.Meaning.{after, FaultNext, FirstFault, NamesFirst}
+use Rattle.script_read.specs.Grammar.{first_why}
+use Rattle.script_read.specs.Meaning.{after, EndsInside, FaultNext, FirstFault, NamesFirst}
 use Rattle.script_read.proofs.Inversions.{at_line_err, ok_err}
+use Rattle.script_read.proofs.Spelled.{first_lines}
+use Rattle.script_read.proofs.Whys.{line_why}
 
 -- the fault lies so many lines behind the first of these
 record Behind (n : ℕ) (s : Reading) (lines : List (List ℕ)) (number : ℕ) (why : LineWhy) : Type 0 where
@@ -21,25 +29,36 @@ record Behind (n : ℕ) (s : Reading) (lines : List (List ℕ)) (number : ℕ) (
   before : after s (take skipped lines) ≡ Ok left
   next : FaultNext left (drop skipped lines) why
 
-at_end_by : (n : ℕ) (s : Reading) (m : ℕ) (w : LineWhy) (A : Type 0) (f : List (List Block) → Result Script (ℕ × LineWhy))
+ends_inside : (p : Place) (commands : List Command) (w : LineWhy) → phases_at p commands ≡ Err w → (w ≡ End) × EndsInside p
+ends_inside place.Start commands w h = absurd (ok_err w _ h)
+ends_inside place.Vertices commands w h = (cc, tt)
+ends_inside place.Edges commands w h = (cc, tt)
+ends_inside place.Phase commands w h = absurd (ok_err w _ h)
+ends_inside place.Actor commands w h = absurd (ok_err w _ h)
+
+at_end_by : (n : ℕ) (s : Reading) (m : ℕ) (w : LineWhy) (f : List (List Block) → Result Script (ℕ × LineWhy))
     → ((x : List (List Block)) → f x ≡ Err (m, w) → ⊥)
     → ((phases_at s.place s.commands ≡ Err w) × (m ≡ n)) ⊎ ((x : List (List Block)) × (phases_at s.place s.commands ≡ Ok x) × (f x ≡ Err (m, w)))
     → Behind n s [] m w
-at_end_by n s m w A f none (inl a) = record { skipped = 0; counted = omega (arith, a.1); left = s; before = refl; next = a.0 }
-at_end_by n s m w A f none (inr b) = absurd (none b.0 b.2)
+at_end_by n s m w f none (inl a) = record { skipped = 0; counted = omega (arith, a.1); left = s; before = refl; next = ends_inside s.place s.commands w a.0 }
+at_end_by n s m w f none (inr b) = absurd (none b.0 b.2)
 
 at_end : (n : ℕ) (s : Reading) (m : ℕ) (w : LineWhy) → ended n s ≡ Err (m, w) → Behind n s [] m w
 unfolding ended
-at_end n s m w h = at_end_by n s m w ⊤ _ (λ x e. ok_err _ _ e) (at_line_err n (phases_at s.place s.commands) _ m w h)
+at_end n s m w h = at_end_by n s m w _ (λ x e. ok_err _ _ e) (at_line_err n (phases_at s.place s.commands) _ m w h)
 
 after_step : (s t : Reading) (line : List ℕ) (lines : List (List ℕ)) (r : Result Reading LineWhy) → line_step s (cleaned line) ≡ Ok t → after t lines ≡ r → after s (line ∷ lines) ≡ r
 after_step s t line lines r h k = rw h k
+
+-- a line that a step refuses has that why
+refused : (s : Reading) (line : List ℕ) (w : LineWhy) → line_step s line ≡ Err w → first_why s line ≡ Some w
+refused s line w h = sym (line_why s line) ∙ ap result_err h
 
 found_by : (n : ℕ) (s : Reading) (line : List ℕ) (lines : List (List ℕ)) (m : ℕ) (w : LineWhy)
     → ((t : Reading) → lines_read (n + 1) t lines ≡ Err (m, w) → Behind (n + 1) t lines m w)
     → ((line_step s (cleaned line) ≡ Err w) × (m ≡ n)) ⊎ ((t : Reading) × (line_step s (cleaned line) ≡ Ok t) × (lines_read (n + 1) t lines ≡ Err (m, w)))
     → Behind n s (line ∷ lines) m w
-found_by n s line lines m w more (inl a) = record { skipped = 0; counted = omega (arith, a.1); left = s; before = refl; next = a.0 }
+found_by n s line lines m w more (inl a) = record { skipped = 0; counted = omega (arith, a.1); left = s; before = refl; next = refused s (cleaned line) w a.0 }
 found_by n s line lines m w more (inr b) =
     let d = more b.0 b.2 in
     record { skipped = suc d.skipped; counted = omega (arith, d.counted); left = d.left; before = after_step s b.0 line _ _ b.1 d.before; next = d.next }
@@ -52,7 +71,8 @@ found n s (line ∷ lines) m w h = found_by n s line lines m w (λ t e. found (n
 first_of : (lines : List (List ℕ)) (m : ℕ) (w : LineWhy) → Behind 1 opening lines m w → FirstFault lines m w
 first_of lines m w d =
     let e : m - 1 ≡ d.skipped = omega (arith, d.counted) in
-    record { counted = omega (arith, d.counted); left = d.left; before = rw e d.before; next = rw e d.next }
+    let t = first_lines d.left (take d.skipped lines) d.before in
+    record { counted = omega (arith, d.counted); left = d.left; before = rw e d.before; spells = rw e t.spells; edges = t.edges; next = rw e d.next }
 
 -- what an answer names is the first fault
 pub names_first : (answer : Result Script ScriptFault) (bytes : List ℕ) → ReadsScript answer (script_of bytes) → IfErr answer (NamesFirst (lines_of bytes))

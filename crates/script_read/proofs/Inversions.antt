@@ -55,7 +55,8 @@ pub named : (word x : List ℕ) → name word ≡ Ok x → (word ≡ x) × IsTru
 unfolding name
 named word x h = name_by (is_name word) word x refl h
 
-not_not : (b : Bool) → not b ≡ false → b ≡ true
+-- a test that did not fail
+pub not_not : (b : Bool) → not b ≡ false → b ≡ true
 not_not true h = refl
 not_not false h = cc
 
@@ -101,9 +102,9 @@ pub three_spelled : (line : List ℕ) → (word_count line == 3) ≡ true → li
 unfolding word_count word_at
 three_spelled line h = sym (join_with_byte-slice_split 32 line) ∙ three_words (words_of line) h
 
-pub four_spelled : (line : List ℕ) → not (word_count line == 4) ≡ false → line ≡ word_at line 0 ++ (32 ∷ (word_at line 1 ++ (32 ∷ (word_at line 2 ++ (32 ∷ word_at line 3)))))
+pub four_spelled : (line : List ℕ) → (word_count line == 4) ≡ true → line ≡ word_at line 0 ++ (32 ∷ (word_at line 1 ++ (32 ∷ (word_at line 2 ++ (32 ∷ word_at line 3)))))
 unfolding word_count word_at
-four_spelled line h = sym (join_with_byte-slice_split 32 line) ∙ four_words (words_of line) (not_not _ h)
+four_spelled line h = sym (join_with_byte-slice_split 32 line) ∙ four_words (words_of line) h
 
 pub both : (a b : Bool) → not (a && b) ≡ false → (a ≡ true) × (b ≡ true)
 both true true h = (refl, refl)
@@ -125,3 +126,6 @@ at_line_ok n (Err y) f t h = cc
 -- texts that are the same
 pub same_is : (a b : List ℕ) → same a b ≡ true → a ≡ b
 same_is a b h = (bytes_eq-Decides a b).0 h
+
+pub is_same : (a b : List ℕ) → a ≡ b → same a b ≡ true
+is_same a b e = (bytes_eq-Decides a b).1 e

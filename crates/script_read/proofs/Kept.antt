@@ -1,10 +1,12 @@
 -- What each line keeps, so that a script that is read is one of the grammar.
-use Rattle.std.proofs.Common.{◌≡◌, ◌∙◌, refl, ap, ℕ, ◌+◌, ◌≤◌, List, [], ◌∷◌, ◌++◌, length, true, false, Result, Ok, Err, arith}
-use Rattle.std.specs.Prelude.{◌==◌, not, nat_le, IsTrue, IfOk, All, codes}
+use Rattle.std.proofs.Common.{◌≡◌, ◌∙◌, sym, refl, ap, ℕ, ◌+◌, ◌<◌, ◌≤◌, List, [], ◌∷◌, ◌++◌, length, get_or, false, Result, Ok, Err, arith}
+use Rattle.std.specs.Prelude.{◌≢◌, not, nat_le, IfOk, All, AllPairs, codes}
 use Rattle.std.specs.Str.{is_utf8}
-use Rattle.std.proofs.lemmas.Bool.{leb-false}
+use Rattle.std.proofs.lemmas.Bool.{leb-false, false≢true}
 use Rattle.std.proofs.lemmas.List.{length-append}
 use Rattle.std.proofs.lemmas.List.Elements.{All-nil, All-push}
+use Rattle.std.proofs.lemmas.List.Folds.{list_any_at}
+use Rattle.std.proofs.lemmas.List.Quantifiers.{all_pairs_push}
 use Rattle.script_read.specs.declared.fault.LineWhy.TheVariants as why
 use Rattle.script_read.specs.declared.fault.ScriptFault.{ScriptFault}
 use Rattle.script_read.specs.declared.reading.Place.{Place}
@@ -12,68 +14,64 @@ use Rattle.script_read.specs.declared.reading.Place.TheVariants as place
 use Rattle.script_read.specs.declared.reading.Reading.{Reading}
 use Rattle.script_read.specs.declared.script.Block.{Block}
 use Rattle.script_read.specs.declared.script.Command.{Command}
-use Rattle.script_read.specs.declared.script.Form.{Form}
-use Rattle.script_read.specs.declared.script.Form.TheVariants as form
 use Rattle.script_read.specs.declared.script.Script.{Script}
 use Rattle.script_read.specs.declared.script.SourceForm.TheVariants.{Inline}
 use Rattle.script_read.specs.declared.script.SourceText.{SourceText}
-use Rattle.script_read.specs.Commands.{show_of, form_of, command_of}
+use Rattle.script_read.specs.Commands.{command_of}
+use Rattle.script_read.specs.Later.{comes_later}
 use Rattle.script_read.specs.Lines.{lines_of, cleaned, is_passed, line_step}
-use Rattle.script_read.specs.Meaning.{IsCommand, HasPhases, IsScript}
-use Rattle.script_read.specs.Places.{has_source, source_line, vertex_line, edge_line, end_line, phase_line, actor_line, command_line, line_in}
+use Rattle.script_read.specs.Meaning.{IsName, IsCommand, HasPhases, IsScript}
+use Rattle.script_read.specs.Places.{has_source, source_line, vertex_line, edge_line, end_line, phase_line, actor_line, command_line, built_line, line_in}
 use Rattle.script_read.specs.Script.{opening, phases_at, ended, lines_read, script_of, ReadsScript}
-use Rattle.script_read.specs.Words.{same, word_at, word_count, is_name, name, key}
-use Rattle.script_read.proofs.Inversions.{err_ok, carried, passed, either, first, named, two_spelled, same_is, at_line_ok}
-
--- ---- commands
-
-show_spelled : (line source : List ℕ) → same (word_at line 0) (codes "show") ≡ true → not (word_count line == 2) ≡ false → word_at line 1 ≡ source → line ≡ codes "show " ++ source
-show_spelled line source w n s = two_spelled line n ∙ (rw (same_is (word_at line 0) (codes "show") w, s) refl)
-
-show_is : (line : List ℕ) (f : Form) → same (word_at line 0) (codes "show") ≡ true → show_of line ≡ Ok f → IsCommand (record { line = line; form = f })
-unfolding show_of
-show_is line f w h =
-    let a = passed (not (word_count line == 2)) why.Form _ f h in
-    let b = first (name (word_at line 1)) _ f a.1 in
-    let n = named _ _ b.1 in
-    carried (λ (x : Form). IsCommand (record { line = line; form = x })) (form.Show b.0) f b.2 (record { spells = show_spelled line b.0 w a.0 n.0; names = n.1 })
-
-form_is : (line : List ℕ) (f : Form) → form_of line ≡ Ok f → IsCommand (record { line = line; form = f })
-unfolding form_of
-form_is line f h = either (same (word_at line 0) (codes "show")) (show_of line) (Err why.Word) f _ (λ w e. show_is line f w e) (λ e. absurd (err_ok why.Word f e)) h
-
-command_is : (line : List ℕ) (c : Command) → command_of line ≡ Ok c → IsCommand c
-unfolding command_of
-command_is line c h =
-    let a = first (form_of line) _ c h in
-    carried IsCommand (record { line = line; form = a.0 }) c a.2 (form_is line a.0 a.1)
+use Rattle.script_read.specs.Words.{same, word_at, name, key, alone, one_name}
+use Rattle.script_read.proofs.Forms.{command_is}
+use Rattle.script_read.proofs.Shapes.{Begins, one_name_is}
+use Rattle.script_read.proofs.Inversions.{err_ok, carried, passed, either, first, named, is_same, at_line_ok}
 
 -- ---- what is kept
+
+-- one more source of this name may stand behind those that are read, and no actor stands yet
+pub record IsOpen (actors : List (List ℕ)) (sources : List SourceText) (name : List ℕ) : Type 0 where
+  pub nobody : actors ≡ []
+  pub room : length sources + 1 ≤ 64
+  pub fresh : has_source sources name ≡ false
+  pub is_name : IsName name
 
 -- what stands where the next line stands
 abbrev pub AtPlace : Place → Reading → Type 0
 AtPlace place.Start s = s.actors ≡ []
-AtPlace place.Vertices s = (s.actors ≡ []) × (s.sources ≡ []) × IsTrue (is_name s.source.name)
-AtPlace place.Edges s = (s.actors ≡ []) × (s.sources ≡ []) × IsTrue (is_name s.source.name)
+AtPlace place.Vertices s = IsOpen s.actors s.sources s.source.name
+AtPlace place.Edges s = IsOpen s.actors s.sources s.source.name
 AtPlace place.Phase s = s.actors ≡ []
-AtPlace place.Actor s = (actor : List ℕ) × (s.actors ≡ actor ∷ []) × IsTrue (is_name actor)
+AtPlace place.Actor s = (actor : List ℕ) × (s.actors ≡ actor ∷ []) × IsName actor
 
 placed : (p q : Place) (s : Reading) → p ≡ q → AtPlace q s → AtPlace p s
 placed p q s e h = rw e h
 
-abbrev pub Named : SourceText → Type 0
-Named source = IsTrue (is_name source.name)
+abbrev Named : SourceText → Type 0
+Named source = IsName source.name
+
+abbrev Differ : SourceText → SourceText → Type 0
+Differ s t = s.name ≢ t.name
 
 pub record IsReading (s : Reading) : Type 0 where
-  pub few : length s.sources ≤ 1
+  pub few : length s.sources ≤ 64
   pub names : All Named s.sources
+  pub distinct : AllPairs Differ s.sources
   pub stands : AtPlace s.place s
   pub short : length s.commands ≤ 65536
   pub commands : All IsCommand s.commands
 
-pub empty_of : (sources : List SourceText) → nat_le 1 (length sources) ≡ false → sources ≡ []
-empty_of [] h = refl
-empty_of (x ∷ xs) h = absurd (omega (arith, leb-false 1 (length (x ∷ xs)) h))
+room_of : (sources : List SourceText) → nat_le 64 (length sources) ≡ false → length sources + 1 ≤ 64
+room_of sources h = omega (arith, leb-false 64 (length sources) h)
+
+one_more_source : (sources : List SourceText) (x : SourceText) → length sources + 1 ≤ 64 → length (sources ++ x ∷ []) ≤ 64
+one_more_source sources x h = rw (length-append sources (x ∷ [])) (omega (arith, h))
+
+-- a name that no source has differs from each
+differs : (sources : List SourceText) (x : SourceText) → has_source sources x.name ≡ false → (k : ℕ) (d : SourceText) → k < length sources → Differ (get_or sources k d) x
+differs sources x h k d lt e =
+    false≢true (sym h ∙ list_any_at (λ (s : SourceText). same s.name x.name) sources k d lt (is_same (get_or sources k d).name x.name e))
 
 keeps_source : (s t : Reading) (line : List ℕ) → IsReading s → AtPlace place.Start s → source_line s line ≡ Ok t → IsReading t
 unfolding source_line
@@ -82,9 +80,9 @@ keeps_source s t line good here h =
     let b = first (name (word_at line 1)) _ t a.1 in
     let n = named _ _ b.1 in
     let c = passed (has_source s.sources b.0) why.Twice _ t b.2 in
-    let d = passed (nat_le 1 (length s.sources)) why.Many _ t c.1 in
+    let d = passed (nat_le 64 (length s.sources)) why.Many _ t c.1 in
     carried IsReading (record s { place = place.Vertices; source = record { name = b.0; vertices = []; edges = [] } }) t d.1
-    (record { few = good.few; names = good.names; stands = (here, empty_of s.sources d.0, n.1); short = good.short; commands = good.commands })
+    (record { few = good.few; names = good.names; distinct = good.distinct; stands = record { nobody = here; room = room_of s.sources d.0; fresh = c.0; is_name = n.1 }; short = good.short; commands = good.commands })
 
 keeps_vertex : (s t : Reading) (line : List ℕ) → IsReading s → s.place ≡ place.Vertices → AtPlace place.Vertices s → vertex_line s line ≡ Ok t → IsReading t
 unfolding vertex_line
@@ -93,7 +91,7 @@ keeps_vertex s t line good at here h =
     let b = first (key (word_at line 1)) _ t a.1 in
     let new : Reading = record s { source = record s.source { vertices = s.source.vertices ++ b.0 ∷ [] } } in
     carried IsReading new t b.2
-    (record { few = good.few; names = good.names; stands = placed s.place place.Vertices new at here; short = good.short; commands = good.commands })
+    (record { few = good.few; names = good.names; distinct = good.distinct; stands = placed s.place place.Vertices new at here; short = good.short; commands = good.commands })
 
 keeps_edge : (s t : Reading) (line : List ℕ) → IsReading s → AtPlace place.Edges s → edge_line s line ≡ Ok t → IsReading t
 unfolding edge_line
@@ -103,25 +101,23 @@ keeps_edge s t line good here h =
     let c = first (key (word_at line 2)) _ t b.2 in
     let d = first (key (word_at line 3)) _ t c.2 in
     carried IsReading (record s { place = place.Edges; source = record s.source { edges = s.source.edges ++ (b.0, c.0, d.0) ∷ [] } }) t d.2
-    (record { few = good.few; names = good.names; stands = here; short = good.short; commands = good.commands })
-
-one_source : (sources : List SourceText) (x : SourceText) → sources ≡ [] → length (sources ++ x ∷ []) ≤ 1
-one_source sources x e = rw e (omega arith)
+    (record { few = good.few; names = good.names; distinct = good.distinct; stands = here; short = good.short; commands = good.commands })
 
 keeps_end : (s t : Reading) (line : List ℕ) → IsReading s → AtPlace place.Edges s → end_line s line ≡ Ok t → IsReading t
 unfolding end_line
 keeps_end s t line good here h =
-    let a = passed _ why.Form _ t h in
+    let a = first (alone line) _ t h in
     carried IsReading
     (record s {
       place = place.Start;
       sources = s.sources ++ record { name = s.source.name; form = Inline s.source.vertices s.source.edges } ∷ [];
       source = record { name = []; vertices = []; edges = [] };
-    }) t a.1
+    }) t a.2
     (record {
-      few = one_source s.sources _ here.1;
-      names = All-push Named s.sources _ good.names here.2;
-      stands = here.0;
+      few = one_more_source s.sources _ here.room;
+      names = All-push Named s.sources _ good.names here.is_name;
+      distinct = all_pairs_push Differ s.sources _ good.distinct (differs s.sources (record { name = s.source.name; form = Inline s.source.vertices s.source.edges }) here.fresh);
+      stands = here.nobody;
       short = good.short;
       commands = good.commands;
     })
@@ -129,18 +125,16 @@ keeps_end s t line good here h =
 keeps_phase : (s t : Reading) (line : List ℕ) → IsReading s → AtPlace place.Start s → phase_line s line ≡ Ok t → IsReading t
 unfolding phase_line
 keeps_phase s t line good here h =
-    let a = passed _ why.Form _ t h in
-    carried IsReading (record s { place = place.Phase }) t a.1
-    (record { few = good.few; names = good.names; stands = here; short = good.short; commands = good.commands })
+    let a = first (alone line) _ t h in
+    carried IsReading (record s { place = place.Phase }) t a.2
+    (record { few = good.few; names = good.names; distinct = good.distinct; stands = here; short = good.short; commands = good.commands })
 
-keeps_actor : (s t : Reading) (line : List ℕ) → IsReading s → AtPlace place.Phase s → actor_line s line ≡ Ok t → IsReading t
+keeps_actor : (s t : Reading) (line : List ℕ) → IsReading s → AtPlace place.Phase s → Begins line (codes "actor") → actor_line s line ≡ Ok t → IsReading t
 unfolding actor_line
-keeps_actor s t line good here h =
-    let a = passed _ why.Form _ t h in
-    let b = first (name (word_at line 1)) _ t a.1 in
-    let n = named _ _ b.1 in
-    carried IsReading (record s { place = place.Actor; actors = s.actors ++ b.0 ∷ [] }) t b.2
-    (record { few = good.few; names = good.names; stands = (b.0, ap (λ (xs : List (List ℕ)). xs ++ b.0 ∷ []) here, n.1); short = good.short; commands = good.commands })
+keeps_actor s t line good here w h =
+    let a = first (one_name line) _ t h in
+    carried IsReading (record s { place = place.Actor; actors = s.actors ++ a.0 ∷ [] }) t a.2
+    (record { few = good.few; names = good.names; distinct = good.distinct; stands = (a.0, ap (λ (xs : List (List ℕ)). xs ++ a.0 ∷ []) here, (one_name_is line _ a.0 w a.1).is_name); short = good.short; commands = good.commands })
 
 one_more : (commands : List Command) (c : Command) → nat_le 65536 (length commands) ≡ false → length (commands ++ c ∷ []) ≤ 65536
 one_more commands c h = let e = leb-false 65536 (length commands) h in rw (length-append commands (c ∷ [])) (omega (arith, e))
@@ -155,6 +149,7 @@ keeps_command s t line good at here h =
     (record {
       few = good.few;
       names = good.names;
+      distinct = good.distinct;
       stands = placed s.place place.Actor new at here;
       short = one_more s.commands a.0 b.0;
       commands = All-push IsCommand s.commands a.0 good.commands (command_is line a.0 a.1);
@@ -163,21 +158,25 @@ keeps_command s t line good at here h =
 no_word : (s t : Reading) → Err why.Word ≡ Ok t → IsReading t
 no_word s t e = absurd (err_ok why.Word t e)
 
-keeps_in : (p : Place) (s t : Reading) (line : List ℕ) → IsReading s → s.place ≡ p → AtPlace p s → line_in p s line ≡ Ok t → IsReading t
-unfolding line_in
-keeps_in place.Start s t line good at here h =
+keeps_built : (p : Place) (s t : Reading) (line : List ℕ) → IsReading s → s.place ≡ p → AtPlace p s → built_line p s line ≡ Ok t → IsReading t
+unfolding built_line
+keeps_built place.Start s t line good at here h =
     either (same (word_at line 0) (codes "source")) _ _ t _ (λ w e. keeps_source s t line good here e)
     (either (same (word_at line 0) (codes "phase")) _ _ t _ (λ w e. keeps_phase s t line good here e) (no_word s t)) h
-keeps_in place.Vertices s t line good at here h =
+keeps_built place.Vertices s t line good at here h =
     either (same (word_at line 0) (codes "v")) _ _ t _ (λ w e. keeps_vertex s t line good at here e)
     (either (same (word_at line 0) (codes "e")) _ _ t _ (λ w e. keeps_edge s t line good here e)
     (either (same (word_at line 0) (codes "end")) _ _ t _ (λ w e. keeps_end s t line good here e) (no_word s t))) h
-keeps_in place.Edges s t line good at here h =
+keeps_built place.Edges s t line good at here h =
     either (same (word_at line 0) (codes "e")) _ _ t _ (λ w e. keeps_edge s t line good here e)
     (either (same (word_at line 0) (codes "end")) _ _ t _ (λ w e. keeps_end s t line good here e) (no_word s t)) h
-keeps_in place.Phase s t line good at here h =
-    either (same (word_at line 0) (codes "actor")) _ _ t _ (λ w e. keeps_actor s t line good here e) (no_word s t) h
-keeps_in place.Actor s t line good at here h = keeps_command s t line good at here h
+keeps_built place.Phase s t line good at here h =
+    either (same (word_at line 0) (codes "actor")) _ _ t _ (λ w e. keeps_actor s t line good here w e) (no_word s t) h
+keeps_built place.Actor s t line good at here h = keeps_command s t line good at here h
+
+keeps_in : (p : Place) (s t : Reading) (line : List ℕ) → IsReading s → s.place ≡ p → AtPlace p s → line_in p s line ≡ Ok t → IsReading t
+unfolding line_in
+keeps_in p s t line good at here h = keeps_built p s t line good at here (passed (comes_later p (word_at line 0)) why.Later _ t h).1
 
 -- each line keeps it
 pub keeps : (s t : Reading) (line : List ℕ) → IsReading s → line_step s line ≡ Ok t → IsReading t
@@ -202,7 +201,7 @@ unfolding ended
 ends_well n s script good h =
     let a = at_line_ok n (phases_at s.place s.commands) _ script h in
     carried IsScript (record { sources = s.sources; actors = s.actors; phases = a.0 }) script a.2
-    (record { few = good.few; names = good.names; phases = phases_are s.place s a.0 good good.stands a.1 })
+    (record { few = good.few; names = good.names; distinct = good.distinct; phases = phases_are s.place s a.0 good good.stands a.1 })
 
 reads_well : (n : ℕ) (s : Reading) (lines : List (List ℕ)) (script : Script) → IsReading s → lines_read n s lines ≡ Ok script → IsScript script
 unfolding lines_read
@@ -212,7 +211,7 @@ reads_well n s (line ∷ lines) script good h =
     reads_well (n + 1) a.0 lines script (keeps s a.0 (cleaned line) good a.1) a.2
 
 pub opens_well : IsReading opening
-opens_well = record { few = omega arith; names = All-nil Named; stands = refl; short = omega arith; commands = All-nil IsCommand }
+opens_well = record { few = omega arith; names = All-nil Named; distinct = λ i j d lt in_range. absurd (omega (arith, in_range)); stands = refl; short = omega arith; commands = All-nil IsCommand }
 
 -- a script that is read is one of the grammar
 pub is_script : (answer : Result Script ScriptFault) (bytes : List ℕ) → ReadsScript answer (script_of bytes) → IfOk answer IsScript

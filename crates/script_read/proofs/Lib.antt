@@ -1,7 +1,10 @@
 pub mod Feeds
 pub mod Steps
 pub mod Inversions
+pub mod Shapes
 pub mod First
+pub mod Forms
 pub mod Kept
 pub mod Numbers
 pub mod Spelled
+pub mod Whys

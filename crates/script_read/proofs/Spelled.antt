@@ -1,6 +1,6 @@
 -- The lines of a script that is read are those that its parts spell.
 use Rattle.std.proofs.Common.{◌≡◌, ◌∙◌, sym, refl, ap, ℕ, ℤ, ◌+◌, List, [], ◌∷◌, ◌++◌, map, length, Bool, true, false, if◌then◌else◌, Result, Ok, Err}
-use Rattle.std.specs.Prelude.{◌==◌, not, nat_le, IfOk, codes, ⊤}
+use Rattle.std.specs.Prelude.{◌≢◌, ◌==◌, not, nat_le, IfOk, codes, ⊤}
 use Rattle.std.specs.List.{flat_map}
 use Rattle.std.specs.Str.{is_utf8}
 use Rattle.std.proofs.lemmas.List.{map-append, append_assoc, append-nil}
@@ -15,48 +15,35 @@ use Rattle.script_read.specs.declared.script.Command.{Command}
 use Rattle.script_read.specs.declared.script.Script.{Script}
 use Rattle.script_read.specs.declared.script.SourceForm.TheVariants.{Inline}
 use Rattle.script_read.specs.declared.script.SourceText.{SourceText}
-use Rattle.script_read.specs.Commands.{form_of, command_of}
+use Rattle.script_read.specs.Commands.{command_of}
+use Rattle.script_read.specs.Later.{comes_later}
 use Rattle.script_read.specs.Lines.{lines_of, cleaned, is_passed, line_step}
-use Rattle.script_read.specs.Meaning.{vertex_text, edge_text, actor_text, record_lines, source_lines, phase_lines, script_lines, kept_lines}
-use Rattle.script_read.specs.Places.{has_source, source_line, vertex_line, edge_line, end_line, phase_line, actor_line, command_line, line_in}
+use Rattle.script_read.specs.Meaning.{lines_at, HasEdges, after, vertex_text, edge_text, actor_text, record_lines, source_lines, phase_lines, script_lines, kept_lines}
+use Rattle.script_read.specs.Places.{has_source, source_line, vertex_line, edge_line, end_line, phase_line, actor_line, command_line, built_line, line_in}
 use Rattle.script_read.specs.Script.{opening, phases_at, ended, lines_read, script_of, ReadsScript}
-use Rattle.script_read.specs.Words.{same, word_at, word_count, name, key}
-use Rattle.script_read.proofs.Inversions.{err_ok, carried, passed, either, first, named, both, one_spelled, two_spelled, three_spelled, four_spelled, same_is, at_line_ok}
+use Rattle.script_read.specs.Words.{same, word_at, word_count, name, key, alone, one_name}
+use Rattle.script_read.proofs.Inversions.{err_ok, not_not, carried, passed, either, first, named, both, two_spelled, three_spelled, four_spelled, same_is, at_line_ok}
+use Rattle.script_read.proofs.Forms.{command_line_is}
 use Rattle.script_read.proofs.Numbers.{key_spelled}
+use Rattle.script_read.proofs.Shapes.{Begins, behind, alone_is, one_name_is}
 use Rattle.script_read.proofs.Kept.{AtPlace, IsReading, keeps, opens_well}
 
 -- ---- one line each
 
-command_line_is : (line : List ℕ) (c : Command) → command_of line ≡ Ok c → c.line ≡ line
-unfolding command_of
-command_line_is line c h =
-    let a = first (form_of line) _ c h in
-    carried (λ (x : Command). x.line ≡ line) (record { line = line; form = a.0 }) c a.2 refl
-
-after_word : (line word : List ℕ) (text : List ℕ) → same (word_at line 0) word ≡ true → line ≡ word_at line 0 ++ text → line ≡ word ++ text
-after_word line word text w e = e ∙ ap (λ (x : List ℕ). x ++ text) (same_is (word_at line 0) word w)
-
-source_text_is : (line source : List ℕ) → same (word_at line 0) (codes "source") ≡ true → (word_count line == 3) ≡ true → same (word_at line 2) (codes "inline") ≡ true → word_at line 1 ≡ source
+source_text_is : (line source : List ℕ) → Begins line (codes "source") → (word_count line == 3) ≡ true → same (word_at line 2) (codes "inline") ≡ true → word_at line 1 ≡ source
     → line ≡ codes "source " ++ (source ++ codes " inline")
 source_text_is line source w n f s =
-    after_word line (codes "source") _ w (three_spelled line n) ∙ (rw (same_is (word_at line 2) (codes "inline") f, s) refl)
+    behind line (codes "source") _ w (three_spelled line n) ∙ (rw (same_is (word_at line 2) (codes "inline") f, s) refl)
 
-vertex_text_is : (line : List ℕ) (k : ℤ) → same (word_at line 0) (codes "v") ≡ true → not (word_count line == 2) ≡ false → key (word_at line 1) ≡ Ok k → line ≡ vertex_text k
+vertex_text_is : (line : List ℕ) (k : ℤ) → Begins line (codes "v") → not (word_count line == 2) ≡ false → key (word_at line 1) ≡ Ok k → line ≡ vertex_text k
 vertex_text_is line k w n h =
-    after_word line (codes "v") _ w (two_spelled line n) ∙ ap (λ (x : List ℕ). codes "v" ++ (32 ∷ x)) (key_spelled (word_at line 1) k h)
+    behind line (codes "v") _ w (two_spelled line n) ∙ ap (λ (x : List ℕ). codes "v" ++ (32 ∷ x)) (key_spelled (word_at line 1) k h)
 
-edge_text_is : (line : List ℕ) (k from to : ℤ) → same (word_at line 0) (codes "e") ≡ true → not (word_count line == 4) ≡ false
+edge_text_is : (line : List ℕ) (k from to : ℤ) → Begins line (codes "e") → not (word_count line == 4) ≡ false
     → key (word_at line 1) ≡ Ok k → key (word_at line 2) ≡ Ok from → key (word_at line 3) ≡ Ok to → line ≡ edge_text (k, from, to)
 edge_text_is line k from to w n h g i =
-    after_word line (codes "e") _ w (four_spelled line n)
+    behind line (codes "e") _ w (four_spelled line (not_not _ n))
     ∙ (rw (key_spelled (word_at line 1) k h, key_spelled (word_at line 2) from g, key_spelled (word_at line 3) to i) refl)
-
-actor_text_is : (line actor : List ℕ) → same (word_at line 0) (codes "actor") ≡ true → not (word_count line == 2) ≡ false → word_at line 1 ≡ actor → line ≡ actor_text actor
-actor_text_is line actor w n e =
-    after_word line (codes "actor") _ w (two_spelled line n) ∙ ap (λ (x : List ℕ). codes "actor" ++ (32 ∷ x)) e
-
-word_is : (line word : List ℕ) → same (word_at line 0) word ≡ true → not (word_count line == 1) ≡ false → line ≡ word
-word_is line word w n = one_spelled line n ∙ same_is (word_at line 0) word w
 
 -- ---- what is read so far
 
@@ -64,31 +51,24 @@ word_is line word w n = one_spelled line n ∙ same_is (word_at line 0) word w
 abbrev open_phase : List (List ℕ) → List Command → List (List ℕ)
 open_phase actors commands = codes "phase" ∷ (map actor_text actors ++ map (λ (c : Command). c.line) commands)
 
-abbrev told_at : Place → Reading → List (List ℕ)
-told_at place.Start s = flat_map source_lines s.sources
-told_at place.Vertices s = flat_map source_lines s.sources ++ record_lines s.source.name s.source.vertices s.source.edges
-told_at place.Edges s = flat_map source_lines s.sources ++ record_lines s.source.name s.source.vertices s.source.edges
-told_at place.Phase s = flat_map source_lines s.sources ++ open_phase [] []
-told_at place.Actor s = flat_map source_lines s.sources ++ open_phase s.actors s.commands
-
--- what is still empty
+-- no command stands before an actor
 abbrev ClearAt : Place → Reading → Type 0
 ClearAt place.Start s = s.commands ≡ []
 ClearAt place.Vertices s = (s.commands ≡ []) × (s.source.edges ≡ [])
-ClearAt place.Edges s = s.commands ≡ []
+ClearAt place.Edges s = (s.commands ≡ []) × (s.source.edges ≢ [])
 ClearAt place.Phase s = s.commands ≡ []
 ClearAt place.Actor s = ⊤
 
 record Telling (s : Reading) (told : List (List ℕ)) : Type 0 where
-  tells : told_at s.place s ≡ told
+  tells : lines_at s.place s ≡ told
   clear : ClearAt s.place s
 
 -- one more line behind what is told
 more : (a x told : List (List ℕ)) (l m : List ℕ) → a ++ x ≡ told → m ≡ l → a ++ (x ++ l ∷ []) ≡ told ++ m ∷ []
 more a x told l m h e = rw e (sym (append_assoc a x (l ∷ [])) ∙ ap (λ (z : List (List ℕ)). z ++ l ∷ []) h)
 
-tells_source : (s t : Reading) (line : List ℕ) (told : List (List ℕ)) → told_at place.Start s ≡ told → ClearAt place.Start s
-    → same (word_at line 0) (codes "source") ≡ true → source_line s line ≡ Ok t → Telling t (told ++ line ∷ [])
+tells_source : (s t : Reading) (line : List ℕ) (told : List (List ℕ)) → lines_at place.Start s ≡ told → ClearAt place.Start s
+    → Begins line (codes "source") → source_line s line ≡ Ok t → Telling t (told ++ line ∷ [])
 unfolding source_line
 tells_source s t line told h clear w e =
     let a = passed _ why.Form _ t e in
@@ -96,7 +76,7 @@ tells_source s t line told h clear w e =
     let b = first (name (word_at line 1)) _ t a.1 in
     let n = named _ _ b.1 in
     let c = passed (has_source s.sources b.0) why.Twice _ t b.2 in
-    let d = passed (nat_le 1 (length s.sources)) why.Many _ t c.1 in
+    let d = passed (nat_le 64 (length s.sources)) why.Many _ t c.1 in
     carried (λ (x : Reading). Telling x (told ++ line ∷ [])) (record s { place = place.Vertices; source = record { name = b.0; vertices = []; edges = [] } }) t d.1
     (record { tells = rw (h, ← source_text_is line b.0 w f.0 f.1 n.0) refl; clear = (clear, refl) })
 
@@ -115,17 +95,17 @@ told_vertex : (a : List (List ℕ)) (n : List ℕ) (vs : List ℤ) (es : List (�
 told_vertex a n vs es k told line none h e =
     rw (none, opened_vertex n vs k) (more a (record_lines n vs []) told (vertex_text k) line (rw none at h) e)
 
-told_same : (p q : Place) (s : Reading) (told : List (List ℕ)) → p ≡ q → told_at q s ≡ told → told_at p s ≡ told
+told_same : (p q : Place) (s : Reading) (told : List (List ℕ)) → p ≡ q → lines_at q s ≡ told → lines_at p s ≡ told
 told_same p q s told e h = rw e h
 
 clear_same : (p q : Place) (s : Reading) → p ≡ q → ClearAt q s → ClearAt p s
 clear_same p q s e h = rw e h
 
-tells_by : (p : Place) (s : Reading) (told : List (List ℕ)) → s.place ≡ p → told_at p s ≡ told → ClearAt p s → Telling s told
+tells_by : (p : Place) (s : Reading) (told : List (List ℕ)) → s.place ≡ p → lines_at p s ≡ told → ClearAt p s → Telling s told
 tells_by p s told at h clear = record { tells = told_same s.place p s told at h; clear = clear_same s.place p s at clear }
 
-tells_vertex : (s t : Reading) (line : List ℕ) (told : List (List ℕ)) → s.place ≡ place.Vertices → told_at place.Vertices s ≡ told → ClearAt place.Vertices s
-    → same (word_at line 0) (codes "v") ≡ true → vertex_line s line ≡ Ok t → Telling t (told ++ line ∷ [])
+tells_vertex : (s t : Reading) (line : List ℕ) (told : List (List ℕ)) → s.place ≡ place.Vertices → lines_at place.Vertices s ≡ told → ClearAt place.Vertices s
+    → Begins line (codes "v") → vertex_line s line ≡ Ok t → Telling t (told ++ line ∷ [])
 unfolding vertex_line
 tells_vertex s t line told at h clear w e =
     let a = passed _ why.Form _ t e in
@@ -139,8 +119,12 @@ told_edge : (a : List (List ℕ)) (n : List ℕ) (vs : List ℤ) (es : List (ℤ
     → a ++ record_lines n vs es ≡ told → line ≡ edge_text x → a ++ record_lines n vs (es ++ x ∷ []) ≡ told ++ line ∷ []
 told_edge a n vs es x told line h e = rw (opened_edge n vs es x) (more a (record_lines n vs es) told (edge_text x) line h e)
 
-tells_edge : (s t : Reading) (line : List ℕ) (told : List (List ℕ)) → told_at place.Edges s ≡ told → ClearAt place.Edges s
-    → same (word_at line 0) (codes "e") ≡ true → edge_line s line ≡ Ok t → Telling t (told ++ line ∷ [])
+not_empty : {A : Type 0} (xs : List A) (x : A) → xs ++ x ∷ [] ≢ []
+not_empty [] x h = cc
+not_empty (y ∷ ys) x h = cc
+
+tells_edge : (s t : Reading) (line : List ℕ) (told : List (List ℕ)) → lines_at place.Edges s ≡ told → s.commands ≡ []
+    → Begins line (codes "e") → edge_line s line ≡ Ok t → Telling t (told ++ line ∷ [])
 unfolding edge_line
 tells_edge s t line told h clear w e =
     let a = passed _ why.Form _ t e in
@@ -151,7 +135,7 @@ tells_edge s t line told h clear w e =
     (record s { place = place.Edges; source = record s.source { edges = s.source.edges ++ (b.0, c.0, d.0) ∷ [] } }) t d.2
     (record {
       tells = told_edge (flat_map source_lines s.sources) s.source.name s.source.vertices s.source.edges (b.0, c.0, d.0) told line h (edge_text_is line b.0 c.0 d.0 w a.0 b.1 c.1 d.1);
-      clear = clear;
+      clear = (clear, not_empty s.source.edges (b.0, c.0, d.0));
     })
 
 told_end : (sources : List SourceText) (n : List ℕ) (vs : List ℤ) (es : List (ℤ × ℤ × ℤ)) (told : List (List ℕ)) (line : List ℕ)
@@ -161,42 +145,40 @@ told_end sources n vs es told line h e =
     ∙ (ap (λ (z : List (List ℕ)). flat_map source_lines sources ++ z) (append-nil (record_lines n vs es ++ codes "end" ∷ []))
     ∙ more (flat_map source_lines sources) (record_lines n vs es) told (codes "end") line h e)
 
-tells_end : (s t : Reading) (line : List ℕ) (told : List (List ℕ)) → told_at place.Edges s ≡ told → ClearAt place.Edges s
-    → same (word_at line 0) (codes "end") ≡ true → end_line s line ≡ Ok t → Telling t (told ++ line ∷ [])
+tells_end : (s t : Reading) (line : List ℕ) (told : List (List ℕ)) → lines_at place.Edges s ≡ told → s.commands ≡ []
+    → Begins line (codes "end") → end_line s line ≡ Ok t → Telling t (told ++ line ∷ [])
 unfolding end_line
 tells_end s t line told h clear w e =
-    let a = passed _ why.Form _ t e in
+    let a = first (alone line) _ t e in
     carried (λ (x : Reading). Telling x (told ++ line ∷ []))
     (record s {
       place = place.Start;
       sources = s.sources ++ record { name = s.source.name; form = Inline s.source.vertices s.source.edges } ∷ [];
       source = record { name = []; vertices = []; edges = [] };
-    }) t a.1
-    (record { tells = told_end s.sources s.source.name s.source.vertices s.source.edges told line h (word_is line (codes "end") w a.0); clear = clear })
+    }) t a.2
+    (record { tells = told_end s.sources s.source.name s.source.vertices s.source.edges told line h (alone_is line (codes "end") a.0 w a.1); clear = clear })
 
-tells_phase : (s t : Reading) (line : List ℕ) (told : List (List ℕ)) → told_at place.Start s ≡ told → ClearAt place.Start s
-    → same (word_at line 0) (codes "phase") ≡ true → phase_line s line ≡ Ok t → Telling t (told ++ line ∷ [])
+tells_phase : (s t : Reading) (line : List ℕ) (told : List (List ℕ)) → lines_at place.Start s ≡ told → ClearAt place.Start s
+    → Begins line (codes "phase") → phase_line s line ≡ Ok t → Telling t (told ++ line ∷ [])
 unfolding phase_line
 tells_phase s t line told h clear w e =
-    let a = passed _ why.Form _ t e in
-    carried (λ (x : Reading). Telling x (told ++ line ∷ [])) (record s { place = place.Phase }) t a.1
-    (record { tells = rw (h, word_is line (codes "phase") w a.0) refl; clear = clear })
+    let a = first (alone line) _ t e in
+    carried (λ (x : Reading). Telling x (told ++ line ∷ [])) (record s { place = place.Phase }) t a.2
+    (record { tells = rw (h, alone_is line (codes "phase") a.0 w a.1) refl; clear = clear })
 
 told_actor : (a : List (List ℕ)) (actors : List (List ℕ)) (commands : List Command) (actor : List ℕ) (told : List (List ℕ)) (line : List ℕ)
     → actors ≡ [] → commands ≡ [] → a ++ open_phase [] [] ≡ told → line ≡ actor_text actor → a ++ open_phase (actors ++ actor ∷ []) commands ≡ told ++ line ∷ []
 told_actor a actors commands actor told line none clear h e =
     rw (none, clear) (more a (open_phase [] []) told (actor_text actor) line h e)
 
-tells_actor : (s t : Reading) (line : List ℕ) (told : List (List ℕ)) → AtPlace place.Phase s → told_at place.Phase s ≡ told → ClearAt place.Phase s
-    → same (word_at line 0) (codes "actor") ≡ true → actor_line s line ≡ Ok t → Telling t (told ++ line ∷ [])
+tells_actor : (s t : Reading) (line : List ℕ) (told : List (List ℕ)) → AtPlace place.Phase s → lines_at place.Phase s ≡ told → ClearAt place.Phase s
+    → Begins line (codes "actor") → actor_line s line ≡ Ok t → Telling t (told ++ line ∷ [])
 unfolding actor_line
 tells_actor s t line told here h clear w e =
-    let a = passed _ why.Form _ t e in
-    let b = first (name (word_at line 1)) _ t a.1 in
-    let n = named _ _ b.1 in
-    carried (λ (x : Reading). Telling x (told ++ line ∷ [])) (record s { place = place.Actor; actors = s.actors ++ b.0 ∷ [] }) t b.2
+    let a = first (one_name line) _ t e in
+    carried (λ (x : Reading). Telling x (told ++ line ∷ [])) (record s { place = place.Actor; actors = s.actors ++ a.0 ∷ [] }) t a.2
     (record {
-      tells = told_actor (flat_map source_lines s.sources) s.actors s.commands b.0 told line here clear h (actor_text_is line b.0 w a.0 n.0);
+      tells = told_actor (flat_map source_lines s.sources) s.actors s.commands a.0 told line here clear h (one_name_is line (codes "actor") a.0 w a.1).spells;
       clear = tt;
     })
 
@@ -206,7 +188,7 @@ told_command a actors commands c told line h e =
     rw (map-append (λ (c : Command). c.line) commands (c ∷ []), ← append_assoc (map actor_text actors) (map (λ (c : Command). c.line) commands) (c.line ∷ []))
     (more a (open_phase actors commands) told c.line line h e)
 
-tells_command : (s t : Reading) (line : List ℕ) (told : List (List ℕ)) → s.place ≡ place.Actor → told_at place.Actor s ≡ told
+tells_command : (s t : Reading) (line : List ℕ) (told : List (List ℕ)) → s.place ≡ place.Actor → lines_at place.Actor s ≡ told
     → command_line s line ≡ Ok t → Telling t (told ++ line ∷ [])
 unfolding command_line
 tells_command s t line told at h e =
@@ -220,22 +202,28 @@ tells_command s t line told at h e =
 no_word : (s t : Reading) (told : List (List ℕ)) → Err why.Word ≡ Ok t → Telling t told
 no_word s t told e = absurd (err_ok why.Word t e)
 
-tells_in : (p : Place) (s t : Reading) (line : List ℕ) (told : List (List ℕ)) → s.place ≡ p → AtPlace p s → told_at p s ≡ told → ClearAt p s
-    → line_in p s line ≡ Ok t → Telling t (told ++ line ∷ [])
-unfolding line_in
-tells_in place.Start s t line told at here h clear e =
+tells_built : (p : Place) (s t : Reading) (line : List ℕ) (told : List (List ℕ)) → s.place ≡ p → AtPlace p s → lines_at p s ≡ told → ClearAt p s
+    → built_line p s line ≡ Ok t → Telling t (told ++ line ∷ [])
+unfolding built_line
+tells_built place.Start s t line told at here h clear e =
     either (same (word_at line 0) (codes "source")) _ _ t _ (λ w g. tells_source s t line told h clear w g)
     (either (same (word_at line 0) (codes "phase")) _ _ t _ (λ w g. tells_phase s t line told h clear w g) (no_word s t _)) e
-tells_in place.Vertices s t line told at here h clear e =
+tells_built place.Vertices s t line told at here h clear e =
     either (same (word_at line 0) (codes "v")) _ _ t _ (λ w g. tells_vertex s t line told at h clear w g)
     (either (same (word_at line 0) (codes "e")) _ _ t _ (λ w g. tells_edge s t line told h clear.0 w g)
     (either (same (word_at line 0) (codes "end")) _ _ t _ (λ w g. tells_end s t line told h clear.0 w g) (no_word s t _))) e
-tells_in place.Edges s t line told at here h clear e =
-    either (same (word_at line 0) (codes "e")) _ _ t _ (λ w g. tells_edge s t line told h clear w g)
-    (either (same (word_at line 0) (codes "end")) _ _ t _ (λ w g. tells_end s t line told h clear w g) (no_word s t _)) e
-tells_in place.Phase s t line told at here h clear e =
+tells_built place.Edges s t line told at here h clear e =
+    either (same (word_at line 0) (codes "e")) _ _ t _ (λ w g. tells_edge s t line told h clear.0 w g)
+    (either (same (word_at line 0) (codes "end")) _ _ t _ (λ w g. tells_end s t line told h clear.0 w g) (no_word s t _)) e
+tells_built place.Phase s t line told at here h clear e =
     either (same (word_at line 0) (codes "actor")) _ _ t _ (λ w g. tells_actor s t line told here h clear w g) (no_word s t _) e
-tells_in place.Actor s t line told at here h clear e = tells_command s t line told at h e
+tells_built place.Actor s t line told at here h clear e = tells_command s t line told at h e
+
+tells_in : (p : Place) (s t : Reading) (line : List ℕ) (told : List (List ℕ)) → s.place ≡ p → AtPlace p s → lines_at p s ≡ told → ClearAt p s
+    → line_in p s line ≡ Ok t → Telling t (told ++ line ∷ [])
+unfolding line_in
+tells_in p s t line told at here h clear e =
+    tells_built p s t line told at here h clear (passed (comes_later p (word_at line 0)) why.Later _ t e).1
 
 -- the line, where it is not passed over
 abbrev kept : List ℕ → List (List ℕ)
@@ -258,7 +246,7 @@ one_phase : (actors : List (List ℕ)) (actor : List ℕ) (commands : List Comma
 one_phase actors actor commands e =
     rw e (append-nil _ ∙ ap (λ (z : List (List ℕ)). codes "phase" ∷ z) (append-nil (actor_text actor ∷ map (λ (c : Command). c.line) commands)))
 
-script_at : (p : Place) (s : Reading) (told : List (List ℕ)) (phases : List (List Block)) → AtPlace p s → told_at p s ≡ told → phases_at p s.commands ≡ Ok phases
+script_at : (p : Place) (s : Reading) (told : List (List ℕ)) (phases : List (List Block)) → AtPlace p s → lines_at p s ≡ told → phases_at p s.commands ≡ Ok phases
     → flat_map source_lines s.sources ++ flat_map (phase_lines s.actors) phases ≡ told
 script_at place.Start s told phases here h e =
     carried (λ (x : List (List Block)). flat_map source_lines s.sources ++ flat_map (phase_lines s.actors) x ≡ told) [] phases e (append-nil _ ∙ h)
@@ -284,6 +272,30 @@ kept_by false told line lines = append_assoc told (line ∷ []) lines
 
 kept_more : (told : List (List ℕ)) (line : List ℕ) (lines : List (List ℕ)) → (told ++ kept (cleaned line)) ++ kept_lines lines ≡ told ++ kept_lines (line ∷ lines)
 kept_more told line lines = kept_by (is_passed (cleaned line)) told (cleaned line) (kept_lines lines)
+
+pub record Spells (s : Reading) (lines : List (List ℕ)) : Type 0 where
+  pub spells : lines_at s.place s ≡ kept_lines lines
+  pub edges : HasEdges s.place s.source.edges
+
+edges_at : (p : Place) (s : Reading) → ClearAt p s → HasEdges p s.source.edges
+edges_at place.Start s clear = tt
+edges_at place.Vertices s clear = clear.1
+edges_at place.Edges s clear = clear.1
+edges_at place.Phase s clear = tt
+edges_at place.Actor s clear = tt
+
+after_told : (s t : Reading) (lines told : List (List ℕ)) → IsReading s → Telling s told → after s lines ≡ Ok t → Telling t (told ++ kept_lines lines)
+after_told s t [] told good h e = rw (append-nil told) (carried (λ (x : Reading). Telling x told) s t e h)
+after_told s t (line ∷ lines) told good h e =
+    let a = first (line_step s (cleaned line)) _ t e in
+    rw (← kept_more told line lines)
+    (after_told a.0 t lines (told ++ kept (cleaned line)) (keeps s a.0 (cleaned line) good a.1) (tells_line s a.0 (cleaned line) told good h a.1) a.2)
+
+-- what is left of the first lines spells them
+pub first_lines : (t : Reading) (lines : List (List ℕ)) → after opening lines ≡ Ok t → Spells t lines
+first_lines t lines e =
+    let h = after_told opening t lines [] opens_well (record { tells = refl; clear = refl }) e in
+    record { spells = h.tells; edges = edges_at t.place t h.clear }
 
 reads_told : (n : ℕ) (s : Reading) (lines : List (List ℕ)) (told : List (List ℕ)) (script : Script) → IsReading s → Telling s told → lines_read n s lines ≡ Ok script
     → script_lines script ≡ told ++ kept_lines lines

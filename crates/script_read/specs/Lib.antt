@@ -1,7 +1,9 @@
 pub mod Faults
 pub mod Words
 pub mod Commands
+pub mod Later
 pub mod Places
 pub mod Lines
+pub mod Grammar
 pub mod Script
 pub mod Meaning

@@ -1,10 +1,13 @@
 -- What a script that is read has, and what its first fault is.
-use Rattle.std.specs.Prelude.{◌≡◌, ◌≤◌, ◌-◌, ◌++◌, ℕ, ℤ, IsTrue, map, unwrap_or, slice_get, if◌then◌else◌, All, List, [], ◌∷◌, length, take, drop, codes, Result, Ok, Err, ⊤}
+use Rattle.std.specs.Prelude.{◌≡◌, ◌≢◌, ◌≤◌, ◌-◌, ◌++◌, ℕ, ℤ, IsTrue, map, unwrap_or, slice_get, if◌then◌else◌, All, AllPairs, List, [], ◌∷◌, length, take, drop, codes, Some, Result, Ok, ⊤}
 use Rattle.std.specs.List.{flat_map}
 use Rattle.std.specs.Fmt.{signed_decimal}
 use Rattle.script_read.specs.declared.fault.LineWhy.{LineWhy}
+use Rattle.script_read.specs.declared.fault.LineWhy.TheVariants.{End}
 use Rattle.script_read.specs.declared.fault.ScriptFault.{ScriptFault}
 use Rattle.script_read.specs.declared.fault.ScriptFault.TheVariants.{BadLine, NoMemory}
+use Rattle.script_read.specs.declared.reading.Place.{Place}
+use Rattle.script_read.specs.declared.reading.Place.TheVariants as place
 use Rattle.script_read.specs.declared.reading.Reading.{Reading}
 use Rattle.script_read.specs.declared.script.Block.{Block}
 use Rattle.script_read.specs.declared.script.Command.{Command}
@@ -16,16 +19,34 @@ use Rattle.script_read.specs.declared.script.SourceForm.TheVariants.{Inline}
 use Rattle.script_read.specs.declared.script.SourceText.{SourceText}
 use Rattle.script_read.specs.Faults.{◌>>=◌}
 use Rattle.script_read.specs.Lines.{cleaned, is_passed, line_step}
-use Rattle.script_read.specs.Script.{opening, phases_at}
+use Rattle.script_read.specs.Grammar.{first_why}
+use Rattle.script_read.specs.Script.{opening}
 use Rattle.script_read.specs.Words.{is_name}
 
 -- the line that a form spells
 abbrev pub spelled : Form → List ℕ
+spelled form.Open = codes "open"
+spelled form.Close = codes "close"
+spelled form.Columns = codes "columns"
+spelled (form.Load graph source) = codes "load " ++ (graph ++ (codes " from " ++ source))
+spelled (form.Clone graph base) = codes "clone " ++ (graph ++ (codes " from " ++ base))
+spelled (form.Release graph) = codes "release " ++ graph
 spelled (form.Show source) = codes "show " ++ source
+spelled (form.Rows graph) = codes "rows " ++ graph
+
+abbrev pub IsName : List ℕ → Type 0
+IsName word = IsTrue (is_name word)
 
 -- the words of a form that are due as names are names
 abbrev pub HasNames : Form → Type 0
-HasNames (form.Show source) = IsTrue (is_name source)
+HasNames form.Open = ⊤
+HasNames form.Close = ⊤
+HasNames form.Columns = ⊤
+HasNames (form.Load graph source) = IsName graph × IsName source
+HasNames (form.Clone graph base) = IsName graph × IsName base
+HasNames (form.Release graph) = IsName graph
+HasNames (form.Show source) = IsName source
+HasNames (form.Rows graph) = IsName graph
 
 -- a command's line spells its form
 pub record IsCommand (command : Command) : Type 0 where
@@ -42,13 +63,14 @@ pub record IsBlock (block : Block) : Type 0 where
 abbrev pub HasPhases : List (List ℕ) → List (List Block) → Type 0
 HasPhases [] [] = ⊤
 HasPhases [] ([] ∷ []) = ⊤
-HasPhases (actor ∷ []) ((block ∷ []) ∷ []) = IsTrue (is_name actor) × IsBlock block
+HasPhases (actor ∷ []) ((block ∷ []) ∷ []) = IsName actor × IsBlock block
 HasPhases actors phases = ⊥
 
--- a script with at most one source, one phase and one actor
+-- a script with at most 64 sources of different names, one phase and one actor
 pub record IsScript (script : Script) : Type 0 where
-  pub few : length script.sources ≤ 1
-  pub names : All (λ source. IsTrue (is_name source.name)) script.sources
+  pub few : length script.sources ≤ 64
+  pub names : All (λ source. IsName source.name) script.sources
+  pub distinct : AllPairs (λ s t. s.name ≢ t.name) script.sources
   pub phases : HasPhases script.actors script.phases
 
 -- the line of a key, of an edge's three keys, and of an actor
@@ -95,16 +117,38 @@ abbrev pub after : Reading → List (List ℕ) → Result Reading LineWhy
 after s [] = Ok s
 after s (line ∷ lines) = line_step s (cleaned line) >>= (λ t. after t lines)
 
--- the next line has this fault, or the end where there is no next line
-abbrev pub FaultNext : Reading → List (List ℕ) → LineWhy → Type 0
-FaultNext s [] why = phases_at s.place s.commands ≡ Err why
-FaultNext s (line ∷ lines) why = line_step s (cleaned line) ≡ Err why
+-- the lines that what has been read spells, by the place
+abbrev pub lines_at : Place → Reading → List (List ℕ)
+lines_at place.Start s = flat_map source_lines s.sources
+lines_at place.Vertices s = flat_map source_lines s.sources ++ record_lines s.source.name s.source.vertices s.source.edges
+lines_at place.Edges s = flat_map source_lines s.sources ++ record_lines s.source.name s.source.vertices s.source.edges
+lines_at place.Phase s = flat_map source_lines s.sources ++ codes "phase" ∷ []
+lines_at place.Actor s = flat_map source_lines s.sources ++ codes "phase" ∷ (map actor_text s.actors ++ map (λ command. command.line) s.commands)
 
--- the line of this number, from 1, has this fault in what the lines before it leave, and they have none
+-- whether an `e` line stands in the open source, as the place says
+abbrev pub HasEdges : Place → List (ℤ × ℤ × ℤ) → Type 0
+HasEdges place.Vertices edges = edges ≡ []
+HasEdges place.Edges edges = edges ≢ []
+HasEdges p edges = ⊤
+
+-- the script ends inside an inline source
+abbrev pub EndsInside : Place → Type 0
+EndsInside place.Vertices = ⊤
+EndsInside place.Edges = ⊤
+EndsInside p = ⊥
+
+-- this is the first why of the next line, or of the end where there is no next line
+abbrev pub FaultNext : Reading → List (List ℕ) → LineWhy → Type 0
+FaultNext s [] why = (why ≡ End) × EndsInside s.place
+FaultNext s (line ∷ lines) why = first_why s (cleaned line) ≡ Some why
+
+-- the line of this number, from 1, has this why behind the lines before it, which have no fault and spell what is left of them
 pub record FirstFault (lines : List (List ℕ)) (number : ℕ) (why : LineWhy) : Type 0 where
   pub counted : 1 ≤ number
   pub left : Reading
   pub before : after opening (take (number - 1) lines) ≡ Ok left
+  pub spells : lines_at left.place left ≡ kept_lines (take (number - 1) lines)
+  pub edges : HasEdges left.place left.source.edges
   pub next : FaultNext left (drop (number - 1) lines) why
 
 -- a line that is named is the first with a fault

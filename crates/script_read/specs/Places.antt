@@ -10,7 +10,8 @@ use Rattle.script_read.specs.declared.script.SourceForm.TheVariants.{Inline}
 use Rattle.script_read.specs.declared.script.SourceText.{SourceText}
 use Rattle.script_read.specs.Commands.{command_of}
 use Rattle.script_read.specs.Faults.{◌>>=◌}
-use Rattle.script_read.specs.Words.{same, word_at, word_count, name, key}
+use Rattle.script_read.specs.Later.{comes_later}
+use Rattle.script_read.specs.Words.{same, word_at, word_count, name, key, alone, one_name}
 
 -- whether a source has this name
 abbrev pub has_source : List SourceText → List ℕ → Bool
@@ -23,7 +24,7 @@ source_line s line =
     else (do
       source ← name (word_at line 1)
       if has_source s.sources source then Err why.Twice
-          else (if nat_le 1 (length s.sources) then Err why.Many
+          else (if nat_le 64 (length s.sources) then Err why.Many
           else Ok (record s { place = place.Vertices; source = record { name = source; vertices = []; edges = [] } })))
 
 -- `v KEY`
@@ -44,23 +45,21 @@ edge_line s line =
 
 -- `end`
 unfoldable pub end_line : Reading → List ℕ → Result Reading LineWhy
-end_line s line =
-    if not (word_count line == 1) then Err why.Form
-    else Ok (record s {
-      place = place.Start;
-      sources = s.sources ++ record { name = s.source.name; form = Inline s.source.vertices s.source.edges } ∷ [];
-      source = record { name = []; vertices = []; edges = [] };
-    })
+end_line s line = do
+  _ ← alone line
+  Ok (record s {
+    place = place.Start;
+    sources = s.sources ++ record { name = s.source.name; form = Inline s.source.vertices s.source.edges } ∷ [];
+    source = record { name = []; vertices = []; edges = [] };
+  })
 
 -- `phase`
 unfoldable pub phase_line : Reading → List ℕ → Result Reading LineWhy
-phase_line s line = if not (word_count line == 1) then Err why.Form else Ok (record s { place = place.Phase })
+phase_line s line = alone line >>= (λ _. Ok (record s { place = place.Phase }))
 
 -- `actor A`
 unfoldable pub actor_line : Reading → List ℕ → Result Reading LineWhy
-actor_line s line =
-    if not (word_count line == 2) then Err why.Form
-    else (name (word_at line 1) >>= (λ actor. Ok (record s { place = place.Actor; actors = s.actors ++ actor ∷ [] })))
+actor_line s line = one_name line >>= (λ actor. Ok (record s { place = place.Actor; actors = s.actors ++ actor ∷ [] }))
 
 -- a command
 unfoldable pub command_line : Reading → List ℕ → Result Reading LineWhy
@@ -68,20 +67,24 @@ command_line s line = do
   command ← command_of line
   if nat_le 65536 (length s.commands) then Err why.Many else Ok (record s { commands = s.commands ++ command ∷ [] })
 
--- what a place allows, by the first word of a line
-unfoldable pub line_in : Place → Reading → List ℕ → Result Reading LineWhy
-line_in place.Start s line =
+-- what a place allows and is built, by the first word of a line
+unfoldable pub built_line : Place → Reading → List ℕ → Result Reading LineWhy
+built_line place.Start s line =
     if same (word_at line 0) (codes "source") then source_line s line
     else if same (word_at line 0) (codes "phase") then phase_line s line
     else Err why.Word
-line_in place.Vertices s line =
+built_line place.Vertices s line =
     if same (word_at line 0) (codes "v") then vertex_line s line
     else if same (word_at line 0) (codes "e") then edge_line s line
     else if same (word_at line 0) (codes "end") then end_line s line
     else Err why.Word
-line_in place.Edges s line =
+built_line place.Edges s line =
     if same (word_at line 0) (codes "e") then edge_line s line
     else if same (word_at line 0) (codes "end") then end_line s line
     else Err why.Word
-line_in place.Phase s line = if same (word_at line 0) (codes "actor") then actor_line s line else Err why.Word
-line_in place.Actor s line = command_line s line
+built_line place.Phase s line = if same (word_at line 0) (codes "actor") then actor_line s line else Err why.Word
+built_line place.Actor s line = command_line s line
+
+-- what a line does in a place
+unfoldable pub line_in : Place → Reading → List ℕ → Result Reading LineWhy
+line_in p s line = if comes_later p (word_at line 0) then Err why.Later else built_line p s line

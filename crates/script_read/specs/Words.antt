@@ -1,10 +1,11 @@
 -- The words of a line, and what a word is read as.
 use Rattle.std.specs.Prelude.{ℕ, ◌==◌, ◌&&◌, ◌||◌, ℤ, Bool, false, not, nat_eq, nat_le, if◌then◌else◌, List, [], ◌∷◌, length, slice_get, unwrap_or, codes, Option, Some, None, Result, Ok, Err}
-use Rattle.std.specs.List.{list_all, slice_split}
+use Rattle.std.specs.List.{list_all, list_any, slice_split}
 use Rattle.std.specs.Cmp.Lexicographic.{pointwise}
 use Rattle.column_types.specs.Reading.{whole_of}
 use Rattle.script_read.specs.declared.fault.LineWhy.{LineWhy}
 use Rattle.script_read.specs.declared.fault.LineWhy.TheVariants as why
+use Rattle.script_read.specs.Faults.{◌>>=◌}
 
 -- whether two texts have the same bytes
 abbrev pub same : List ℕ → List ℕ → Bool
@@ -24,6 +25,10 @@ word_count line = length (words_of line)
 -- the word at a place, from 0, and the empty word past the end
 unfoldable pub word_at : List ℕ → ℕ → List ℕ
 word_at line place = unwrap_or (slice_get (words_of line) place) []
+
+-- whether a text is one of the words of a line
+unfoldable pub has_word : List ℕ → List ℕ → Bool
+has_word line text = list_any (λ word. same word text) (words_of line)
 
 -- an ASCII letter or `_`
 abbrev pub is_letter : ℕ → Bool
@@ -67,3 +72,20 @@ or_number (Some n) = Ok n
 -- a word that is due as a key
 unfoldable pub key : List ℕ → Result ℤ LineWhy
 key word = or_number (key_number word)
+
+-- nothing, where the line is its first word alone
+unfoldable pub alone : List ℕ → Result (Unit {0}) LineWhy
+alone line = if not (word_count line == 1) then Err why.Form else Ok tt
+
+-- the name of `WORD NAME`
+unfoldable pub one_name : List ℕ → Result (List ℕ) LineWhy
+one_name line = if not (word_count line == 2) then Err why.Form else name (word_at line 1)
+
+-- the names of `WORD NAME LINK NAME`
+unfoldable pub two_names : List ℕ → List ℕ → Result (List ℕ × List ℕ) LineWhy
+two_names line link =
+    if not ((word_count line == 4) && same (word_at line 2) link) then Err why.Form
+    else (do
+      first ← name (word_at line 1)
+      second ← name (word_at line 3)
+      Ok (first, second))

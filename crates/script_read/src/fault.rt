@@ -11,6 +11,8 @@ pub enum LineWhy {
     Utf8,
     /// The first word is not allowed in this place.
     Word,
+    /// The first word is allowed in this place, and the line is not built yet.
+    Later,
     /// The number of words or a fixed word is wrong.
     Form,
     /// A word is not the name that is due in its place.
@@ -19,7 +21,7 @@ pub enum LineWhy {
     Number,
     /// A source's name stands again.
     Twice,
-    /// One source, or one command, too many.
+    /// The 65th source, or the 65,537th command.
     Many,
     /// The script ends inside an inline source.
     End,

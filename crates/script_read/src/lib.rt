@@ -9,21 +9,29 @@
 //! | start, after a source | `source S inline`, `phase` |
 //! | in an inline source | `v KEY`, after all of these `e KEY SOURCE DESTINATION`, `end` |
 //! | after `phase` | `actor A` |
-//! | after `actor` or a command | `show S` |
+//! | after `actor` or a command | `open`, `close`, `columns`, `load G from S`, `clone G from H`, `release G`, `show S`, `rows G` |
 //!
-//! S and A are names: 1 to 64 bytes, an ASCII letter or `_` and then letters, digits and `_`. KEY, SOURCE and DESTINATION
-//! are LONGs in decimal with an optional `-`, without a leading zero and other than `-0`.
+//! S, A, G and H are names: 1 to 64 bytes, an ASCII letter or `_` and then letters, digits and `_`. KEY, SOURCE and
+//! DESTINATION are LONGs in decimal with an optional `-`, without a leading zero and other than `-0`.
 //!
-//! A script has at most one source, one phase, one actor and 65,536 commands. A second source with another name has the why
-//! `many`, with the same name `twice`. A second `phase` line, a second `actor` line and every command but `show` have the
-//! why `word`.
+//! The first line with a fault decides, and of its faults the first in the order of [`LineWhy`]. A script has at most 64
+//! sources, whose names differ, one phase, one actor and 65,536 commands.
 //!
-//! A command is a variant of [`Form`], a definition in `specs/Commands.antt` and a function in `command.rt`, with one arm
-//! in `form_of` and in `read_form`.
+//! A second `phase` line, a second `actor` line and the commands that `later.rt` lists belong to the language and are not
+//! built yet: they are refused as `Later` in the places where they will be allowed.
+//!
+//! Contracts see a script as the record of its sources, actors and phases, and a [`Form`] as its variant with the texts.
+//! `specs/Grammar.antt` has the grammar as a table, `specs/Meaning.antt` what an accepted script spells and what a fault
+//! names.
+//!
+//! A command is a variant of [`Form`], a definition in `specs/Commands.antt` and a function in `command.rt`, each with its
+//! arm; a line in `spelled` and `HasNames` of `specs/Meaning.antt` and in the table of `specs/Grammar.antt`; and two lemmas,
+//! in `proofs/Forms.antt` and `proofs/Whys.antt`.
 #![tactic(auto)]
 
 mod command;
 mod fault;
+mod later;
 mod laws;
 mod lines;
 mod read;

@@ -5,13 +5,14 @@ ghost use Rattle.script_read.specs.Places.{has_source, source_line, vertex_line,
 
 use crate::command::read_command;
 use crate::fault::{LineFault, LineWhy};
-use crate::words::{count_words, nth_word, read_key, read_name};
+use crate::later::comes_later;
+use crate::words::{count_words, nth_word, read_alone, read_key, read_name, read_one_name};
 use crate::{Command, SourceForm, SourceText};
 use column_types::{List, Text};
 use std::alloc::Global;
 
 /// How many sources a script may have.
-const MOST_SOURCES: usize = 1;
+const MOST_SOURCES: usize = 64;
 
 /// How many commands a script may have.
 const MOST_COMMANDS: usize = 65_536;
@@ -50,11 +51,14 @@ pub struct Reading {
 }
 
 /// Reads a line by the place where it stands. After an error nothing is said of what has been read.
-#[tactic(auto, unfolding(crate::specs::Places::line_in))]
+#[tactic(auto, unfolding(crate::specs::Places::line_in, crate::specs::Places::built_line))]
 pub fn read_in_place(alloc: Global, reading: &mut Reading, line: &str) -> Result<(), LineFault>
     ensures { Writes result reading.new (line_in reading.old.place reading.old line.now) }
 {
     let word = nth_word(line, 0);
+    if comes_later(reading.place, word) {
+        return Err(LineFault::Bad(LineWhy::Later));
+    }
     match reading.place {
         Place::Start if word == "source" => read_source(alloc, reading, line),
         Place::Start if word == "phase" => read_phase(reading, line),
@@ -127,9 +131,7 @@ fn read_edge(reading: &mut Reading, line: &str) -> Result<(), LineFault>
 fn read_end(alloc: Global, reading: &mut Reading, line: &str) -> Result<(), LineFault>
     ensures { Writes result reading.new (end_line reading.old line.now) }
 {
-    if count_words(line) != 1 {
-        return Err(LineFault::Bad(LineWhy::Form));
-    }
+    read_alone(line)?;
     let none = OpenSource {
         name: Text::new(alloc),
         vertices: List::new(alloc),
@@ -150,9 +152,7 @@ fn read_end(alloc: Global, reading: &mut Reading, line: &str) -> Result<(), Line
 fn read_phase(reading: &mut Reading, line: &str) -> Result<(), LineFault>
     ensures { Writes result reading.new (phase_line reading.old line.now) }
 {
-    if count_words(line) != 1 {
-        return Err(LineFault::Bad(LineWhy::Form));
-    }
+    read_alone(line)?;
     reading.place = Place::Phase;
     Ok(())
 }
@@ -161,10 +161,7 @@ fn read_phase(reading: &mut Reading, line: &str) -> Result<(), LineFault>
 fn read_actor(alloc: Global, reading: &mut Reading, line: &str) -> Result<(), LineFault>
     ensures { Writes result reading.new (actor_line reading.old line.now) }
 {
-    if count_words(line) != 2 {
-        return Err(LineFault::Bad(LineWhy::Form));
-    }
-    let actor = read_name(alloc, nth_word(line, 1))?;
+    let actor = read_one_name(alloc, line)?;
     reading.actors.push(actor)?;
     reading.place = Place::Actor;
     Ok(())

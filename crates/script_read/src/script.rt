@@ -38,7 +38,7 @@ pub struct Block {
 }
 
 /// A command.
-#[derive(Debug, Drop, PartialEq, Eq)]
+#[derive(Clone, Debug, Drop, PartialEq, Eq)]
 pub struct Command {
     /// The line, without spaces at its start and a carriage return at its end.
     pub line: Text,
@@ -46,8 +46,22 @@ pub struct Command {
 }
 
 /// What a command asks, with its variable words in order.
-#[derive(Debug, Drop, PartialEq, Eq)]
+#[derive(Clone, Debug, Drop, PartialEq, Eq)]
 pub enum Form {
+    /// Open the session.
+    Open,
+    /// Close the session.
+    Close,
+    /// List the columns that can be reached.
+    Columns,
+    /// Load a graph under the first name from the source of the second.
+    Load(Text, Text),
+    /// Clone under the first name the session graph of the second.
+    Clone(Text, Text),
+    /// Release the session graph of this name.
+    Release(Text),
     /// Show the source of this name.
     Show(Text),
+    /// Show the rows of the session graph of this name.
+    Rows(Text),
 }

@@ -2,7 +2,7 @@
 ghost use Rattle.std.specs.Prelude.{◌≡◌};
 ghost use Rattle.std.specs.List.{list_all};
 ghost use Rattle.script_read.specs.Faults.{Gives};
-ghost use Rattle.script_read.specs.Words.{word_count, word_at, is_letter, is_digit, is_name_byte, is_name, name, is_decimal, is_key, key_number, key};
+ghost use Rattle.script_read.specs.Words.{word_count, word_at, has_word, is_letter, is_digit, is_name_byte, is_name, name, is_decimal, is_key, key_number, key, alone, one_name, two_names};
 
 use crate::fault::{LineFault, LineWhy};
 use column_types::Text;
@@ -22,6 +22,14 @@ pub fn nth_word(line: &str, place: usize) -> &str
     ensures { result.now ≡ word_at line.now place }
 {
     line.split(' ').nth(place).unwrap_or("")
+}
+
+/// Whether a text is one of the words of a line.
+#[tactic(auto, unfolding(crate::specs::Words::has_word))]
+pub fn has_word(line: &str, text: &str) -> bool
+    ensures { result ≡ has_word line.now text.now }
+{
+    line.split(' ').any(|word| word == text)
 }
 
 fn is_letter(c: u8) -> bool
@@ -112,4 +120,39 @@ pub fn read_key(word: &str) -> Result<i64, LineFault>
         Some(key) => Ok(key),
         None => Err(LineFault::Bad(LineWhy::Number)),
     }
+}
+
+/// A line that is its first word alone.
+#[tactic(auto, unfolding(crate::specs::Words::alone))]
+pub fn read_alone(line: &str) -> Result<(), LineFault>
+    ensures { Gives result (alone line.now) }
+{
+    if count_words(line) != 1 {
+        return Err(LineFault::Bad(LineWhy::Form));
+    }
+    Ok(())
+}
+
+/// The name of a line `WORD NAME`.
+#[tactic(auto, unfolding(crate::specs::Words::one_name))]
+pub fn read_one_name(alloc: Global, line: &str) -> Result<Text, LineFault>
+    ensures { Gives result (one_name line.now) }
+{
+    if count_words(line) != 2 {
+        return Err(LineFault::Bad(LineWhy::Form));
+    }
+    read_name(alloc, nth_word(line, 1))
+}
+
+/// The names of a line `WORD NAME LINK NAME`.
+#[tactic(auto, unfolding(crate::specs::Words::two_names))]
+pub fn read_two_names(alloc: Global, line: &str, link: &str) -> Result<(Text, Text), LineFault>
+    ensures { Gives result (two_names line.now link.now) }
+{
+    if !(count_words(line) == 4 && nth_word(line, 2) == link) {
+        return Err(LineFault::Bad(LineWhy::Form));
+    }
+    let first = read_name(alloc, nth_word(line, 1))?;
+    let second = read_name(alloc, nth_word(line, 3))?;
+    Ok((first, second))
 }

@@ -1,6 +1,4 @@
-use Rattle.std.proofs.Common.{◌≡◌, drop}
-use Rattle.pgx_shell.specs.Opening.{opened, opened_after}
 use Rattle.pgx_shell.proofs.open.open_sources.Given as goal
 
-abbrev pub invariant-loop-source : goal.invariant-loop-source
-invariant-loop-source l = opened l.sources ≡ opened_after l.openings (drop l.source-index l.sources)
+abbrev pub ghosts-open_counted : goal.ghosts-open_counted
+ghosts-open_counted r a = record { name = a.blank.name; parts = a.blank.parts }

@@ -7,4 +7,4 @@ pub returns-in-Ok : goal.returns-in-Ok
 returns-in-Ok g c = (usage c.args.place, inl refl, rw (c.as_str.ensures, c.in-Ok.ensures) at c.tell.ensures.told)
 
 pub returns-in-Err : goal.returns-in-Err
-returns-in-Err g c = (stopped NoMemory, inr refl, rw c.error_text.ensures at c.tell-in-Err.ensures.told)
+returns-in-Err g c = (stopped NoMemory, inr refl, c.tell-in-Err.ensures.told)

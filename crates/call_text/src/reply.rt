@@ -1,0 +1,88 @@
+//! Replies and refusals.
+ghost use Rattle.std.specs.Prelude.{◌≡◌, ◌++◌, OnOk, OnErr, map, codes};
+ghost use Rattle.std.specs.Fmt.{decimal};
+ghost use Rattle.call_text.specs.Lines.{reply_line};
+ghost use Rattle.call_text.specs.Words.{word_text};
+ghost use Rattle.call_text.specs.Replies.{reply_text, refused, refusal_text, starved_text};
+
+use crate::words::{Word, push_numbers, push_spaced};
+use catalogue::{Refusal, Reply};
+use column_types::{NoMemory, Text};
+
+/// Appends a reply line: a word and further words.
+fn push_line(text: &mut Text, first: &str, words: &[Word]) -> Result<(), NoMemory>
+    ensures { OnOk result (text.new ≡ text.old ++ reply_line first.now (map word_text words.now)) }
+{
+    text.push("  ")?;
+    text.push(first)?;
+    push_spaced(text, words)?;
+    text.push("\n")
+}
+
+fn push_columns(text: &mut Text, columns: &[u64]) -> Result<(), NoMemory>
+    ensures { OnOk result (text.new ≡ text.old ++ reply_line (codes "ok") (map decimal columns.now)) }
+{
+    text.push("  ok")?;
+    push_numbers(text, columns)?;
+    text.push("\n")
+}
+
+/// Appends the lines of a reply, each ended by a line feed. After want of memory a part of them may have been appended.
+pub fn push_reply(text: &mut Text, reply: &Reply) -> Result<(), NoMemory>
+    ensures { OnOk result (text.new ≡ text.old ++ reply_text reply.now) }
+{
+    match reply {
+        Reply::Done => push_line(text, "ok", &[]),
+        Reply::Front(front) => {
+            push_line(text, "ok", &[Word::Name("front"), Word::Number(*front)])
+        }
+        Reply::Sid(sid) => push_line(text, "ok", &[Word::Name("sid"), Word::Number(*sid)]),
+        Reply::Columns(columns) => push_columns(text, columns.as_slice()),
+        Reply::Refused(refusal) => push_refusal(text, refusal),
+    }
+}
+
+/// Appends the line of a refusal by its number, its name and its values.
+fn push_refused(text: &mut Text, number: u64, name: &str, values: &[Word]) -> Result<(), NoMemory>
+    ensures { OnOk result (text.new ≡ text.old ++ refused number name.now (map word_text values.now)) }
+{
+    text.push("  refused")?;
+    push_spaced(text, &[Word::Number(number), Word::Name(name)])?;
+    push_spaced(text, values)?;
+    text.push("\n")
+}
+
+/// Appends the line of a refusal: its number, its name and its values. After want of memory a part of it may have been
+/// appended.
+pub fn push_refusal(text: &mut Text, refusal: &Refusal) -> Result<(), NoMemory>
+    ensures { OnOk result (text.new ≡ text.old ++ refusal_text refusal.now) }
+{
+    match refusal {
+        Refusal::SessionsFull => push_refused(text, 18, "SessionsFull", &[]),
+        Refusal::NoSource(name) => push_refused(text, 19, "NoSource", &[Word::Name(name.as_str())]),
+        Refusal::NameTaken(name) => push_refused(
+            text,
+            21,
+            "NameTaken",
+            &[Word::Name(name.as_str())],
+        ),
+        Refusal::GraphsFull => push_refused(text, 22, "GraphsFull", &[]),
+        Refusal::NoName(name) => push_refused(text, 23, "NoName", &[Word::Name(name.as_str())]),
+        Refusal::NotVisible(visible) => push_refused(
+            text,
+            32,
+            "NotVisible",
+            &[Word::Number(*visible)],
+        ),
+        Refusal::NotOpen => push_refused(text, 48, "NotOpen", &[]),
+        Refusal::AlreadyOpen => push_refused(text, 49, "AlreadyOpen", &[]),
+    }
+}
+
+/// Appends the reply line of a call that found no memory.
+pub fn push_starved(text: &mut Text) -> Result<(), NoMemory>
+    ensures ok { OnOk result (text.new ≡ text.old ++ starved_text) }
+    ensures err { OnErr result (text.new ≡ text.old) }
+{
+    text.push("  no memory\n")
+}

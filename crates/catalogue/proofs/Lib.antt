@@ -1,0 +1,15 @@
+pub mod Places
+pub mod Lists
+pub mod Counts
+pub mod Roots
+pub mod Limits
+pub mod Numbers
+pub mod Drawing
+pub mod Others
+pub mod Columns
+pub mod Own
+pub mod Refusals
+pub mod Prefixes
+pub mod Ids
+pub mod Rising
+pub mod Names

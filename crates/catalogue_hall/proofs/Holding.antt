@@ -1,0 +1,112 @@
+-- What a session holds after a call of its own.
+use Rattle.std.proofs.Common.{◌≡◌, ℕ, ◌++◌, List, [], ◌∷◌, Option, Some, None, Bool, true, false, refl, sym, ap, subst, ◌∙◌, map, cond, length}
+use Rattle.std.specs.Prelude.{is_some}
+use Rattle.std.specs.Str.{bytes_eq}
+use Rattle.std.proofs.lemmas.Bool.{eq-eqb}
+use Rattle.std.proofs.lemmas.List.{map_push}
+use Rattle.turn_hall.specs.declared.entry.Entry.{Entry}
+use Rattle.turn_hall.specs.Replay.{entry}
+use Rattle.catalogue.specs.declared.ask.Ask.{Ask}
+use Rattle.catalogue.specs.declared.ask.Ask.TheVariants.{OpenSession, CloseSession, Peek, Place, Derive, Release, Columns}
+use Rattle.catalogue.specs.declared.reply.Reply.{Reply}
+use Rattle.catalogue.specs.declared.reply.Reply.TheVariants.{Sid}
+use Rattle.catalogue.specs.declared.reply.Refusal.{Refusal}
+use Rattle.catalogue.specs.declared.call.Gift.{Gift}
+use Rattle.catalogue.specs.declared.call.Gift.TheVariants as gift
+use Rattle.catalogue.specs.declared.parts.Held.{Held}
+use Rattle.catalogue.specs.declared.parts.Session.{Session}
+use Rattle.catalogue.specs.declared.parts.SourceData.{SourceData}
+use Rattle.catalogue.specs.State.{Name, State, of_who, named, session_of, held_of, held_in, holds, drop_first}
+use Rattle.catalogue.specs.Step.{Answer, refuse, unless, step, let_go, private_graph, drawn, placed, derived, new_columns}
+use Rattle.catalogue.specs.Gift.{gift_of, snap_gift, held_under}
+use Rattle.catalogue.specs.Kept.{IsKept as IsSound}
+use Rattle.catalogue.specs.Desk.{given_keeps}
+use Rattle.catalogue.proofs.Counts.{only_one_dropped}
+use Rattle.catalogue.proofs.Drawing.{find_changed, find_push, session_drawn, held_drawn}
+use Rattle.catalogue_hall.specs.declared.held.Named.{Named}
+use Rattle.catalogue_hall.specs.History.{named_of, is_named, held_by}
+use Rattle.catalogue_hall.specs.Told.{held_after}
+use Rattle.catalogue_hall.specs.Kept.{IsKept, history_of}
+use Rattle.catalogue_hall.proofs.Grown.{kept_more}
+
+-- what holds of an answer, where it holds of the refusal and, where the test failed, of what follows
+unless_where : (P : Answer → Type 0) (m : State) (b : Bool) (r : Refusal) (k : Answer) → P (refuse m r) → (b ≡ false → P k) → P (unless m b r k)
+unfolding unless
+unless_where P m true r k base rest = base
+unless_where P m false r k base rest = rest refl
+
+nothing_found : {X : Type 0} (o : Option X) → is_some o ≡ false → o ≡ None
+nothing_found None e = refl
+nothing_found (Some x) e = absurd (cc)
+
+drop_at : (name : Name) (h : Held) (held : List Held) (b : Bool) → named name h ≡ b → drop_first (is_named name) (map named_of held) ≡ map named_of (drop_first (named name) held)
+    → cond b (map named_of held) (named_of h ∷ drop_first (is_named name) (map named_of held)) ≡ map named_of (cond b held (h ∷ drop_first (named name) held))
+drop_at name h held true e ih = refl
+drop_at name h held false e ih = ap (λ l. named_of h ∷ l) ih
+
+-- a graph is taken out by its name
+drop_named : (name : Name) (held : List Held) → drop_first (is_named name) (map named_of held) ≡ map named_of (drop_first (named name) held)
+drop_named name [] = refl
+drop_named name (h ∷ held) = drop_at name h held (bytes_eq h.name name) refl (drop_named name held)
+
+module _ (m : State) (who : ℕ) (sound : IsSound m) where
+  abbrev before : List Named
+  before = map named_of (holds m who)
+
+  abbrev Tells : Ask → Answer → Type 0
+  Tells ask a = held_after before ask a.0 (gift_of a.1 who ask a.0) ≡ map named_of (holds a.1 who)
+
+  before_is : (s : Session) → session_of m who ≡ Some s → before ≡ map named_of s.held
+  before_is s is = ap (λ (o : Option Session). map named_of (held_in o)) is
+
+  -- the graphs of the session after one more came
+  after_is : (h : Held) (new : ℕ) (s : Session) → session_of m who ≡ Some s → before ++ named_of h ∷ [] ≡ map named_of (holds (drawn m who h new) who)
+  after_is h new s is =
+      ap (λ l. l ++ named_of h ∷ []) (before_is s is) ∙ sym (map_push named_of s.held h)
+      ∙ sym (ap (λ (o : Option Session). map named_of (held_in o)) (session_drawn m who h new s is))
+
+  -- a call that brings a graph
+  came : (ask : Ask) (h : Held) (sid new : ℕ) (s : Session) → session_of m who ≡ Some s → is_some (held_of s h.name) ≡ false
+      → held_after before ask (Sid sid) (gift.Snap h.snap) ≡ before ++ named_of h ∷ [] → ((n : State) → gift_of n who ask (Sid sid) ≡ snap_gift (held_under n who h.name)) → Tells ask (Sid sid, drawn m who h new)
+  came ask h sid new s is free after gives =
+      let there = ap snap_gift (held_drawn m who h new s is (nothing_found (held_of s h.name) free)) in
+      ap (held_after before ask (Sid sid)) (gives (drawn m who h new) ∙ there) ∙ after ∙ after_is h new s is
+
+  tells : (ask : Ask) → Tells ask (step m who ask)
+  tells OpenSession =
+      unless_where (Tells OpenSession) m _ _ _ refl (λ closed. unless_where (Tells OpenSession) m _ _ _ refl (λ room.
+      let none = nothing_found (session_of m who) closed in
+      let now = find_push (of_who who) (record { who = who; held = [] }) m.sessions (eq-eqb who who refl) none in
+      ap (λ (o : Option Session). map named_of (held_in o)) none ∙ sym (ap (λ (o : Option Session). map named_of (held_in o)) now)))
+  tells CloseSession =
+      given_keeps (Tells CloseSession) m (λ r. refl) _ _ _ (λ s is.
+      sym (ap (λ (o : Option Session). map named_of (held_in o)) (only_one_dropped (of_who who) m.sessions (sound.one_each who))))
+  tells (Peek source) = given_keeps (Tells (Peek source)) m (λ r. refl) _ _ _ (λ from js. refl)
+  tells (Place name source front) =
+      let T = Tells (Place name source front) in
+      given_keeps T m (λ r. refl) _ _ _ (λ s is. given_keeps T m (λ r. refl) _ _ _ (λ from js.
+      unless_where T m _ _ _ refl (λ free. unless_where T m _ _ _ refl (λ seen. unless_where T m _ _ _ refl (λ room.
+      let snap = placed m from front in
+      came (Place name source front) (private_graph name (Some source) snap) snap.sid (length snap.columns) s is free refl (λ n. refl))))))
+  tells (Derive name base how) =
+      let T = Tells (Derive name base how) in
+      given_keeps T m (λ r. refl) _ _ _ (λ s is. given_keeps T m (λ r. refl) _ _ _ (λ b js.
+      unless_where T m _ _ _ refl (λ free. unless_where T m _ _ _ refl (λ room.
+      let snap = derived m b.snap how in
+      came (Derive name base how) (private_graph name None snap) snap.sid (new_columns how) s is free refl (λ n. refl)))))
+  tells (Release name) =
+      let T = Tells (Release name) in
+      given_keeps T m (λ r. refl) _ _ _ (λ s is. given_keeps T m (λ r. refl) _ _ _ (λ h js.
+      ap (drop_first (is_named name)) (before_is s is) ∙ drop_named name s.held
+      ∙ sym (ap (λ (o : Option Session). map named_of (held_in o)) (find_changed (of_who who) (let_go name) s m.sessions (λ x. refl) is))))
+  tells Columns = refl
+
+  -- what a call tells its caller is what it holds after the history with that call
+  pub told_is_held : (n : State) (sources : List SourceData) (book : List (Entry Ask Reply)) (ask : Ask) (reply : Reply) (given : Gift) (held : List Named)
+      → IsKept m sources book → step m who ask ≡ (reply, n) → given ≡ gift_of n who ask reply → held ≡ held_by (history_of m book) who
+      → held_after held ask reply given ≡ held_by (history_of n (book ++ entry who ask reply ∷ [])) who
+  told_is_held n sources book ask reply given held kept steps gives is =
+      let later = kept_more m n sources book who ask reply kept steps in
+      let now : held ≡ before = is ∙ ap (λ s. map named_of (holds s who)) (sym kept.state) in
+      let told : held_after before ask reply (gift_of n who ask reply) ≡ map named_of (holds n who) = subst (Tells ask) steps (tells ask) in
+      ap (λ l. held_after l ask reply given) now ∙ ap (held_after before ask reply) gives ∙ told ∙ ap (λ s. map named_of (holds s who)) later.state

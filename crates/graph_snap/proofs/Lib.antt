@@ -1,0 +1,10 @@
+pub mod SlotAt
+pub mod Starts
+pub mod Few
+pub mod GraphOf
+pub mod Columns
+pub mod Snapshots
+pub mod Found
+pub mod Readers
+pub mod Taken
+pub mod EdgesOf

@@ -1,0 +1,288 @@
+-- The why of a line is the first that it has by the table of the grammar.
+use Rattle.std.proofs.Common.{◌≡◌, ◌∙◌, sym, refl, ap, ℕ, ℤ, List, [], ◌∷◌, length, Bool, true, false, if◌then◌else◌, Option, Some, None, Result, Ok, Err, arith}
+use Rattle.std.specs.Prelude.{◌==◌, ◌&&◌, not, nat_le, slice_get, unwrap_or, find, codes, is_some}
+use Rattle.std.specs.Option.{option_or}
+use Rattle.std.specs.Result.{result_err}
+use Rattle.std.specs.Str.{is_utf8}
+use Rattle.std.proofs.lemmas.Bool.{ne_eqb}
+use Rattle.script_read.specs.declared.fault.LineWhy.{LineWhy}
+use Rattle.script_read.specs.declared.fault.LineWhy.TheVariants as why
+use Rattle.script_read.specs.declared.reading.Place.{Place}
+use Rattle.script_read.specs.declared.reading.Place.TheVariants as place
+use Rattle.script_read.specs.declared.reading.Reading.{Reading}
+use Rattle.script_read.specs.Commands.{open_of, close_of, columns_of, load_of, clone_of, release_of, show_of, rows_of, graph_form_of, form_of, command_of}
+use Rattle.script_read.specs.Faults.{◌>>=◌}
+use Rattle.script_read.specs.Grammar.{Due, text, a_name, a_key, Row, rows_in, words_why, row_why, limit_why, first_why}
+use Rattle.script_read.specs.Later.{comes_later}
+use Rattle.script_read.specs.Lines.{is_passed, line_step}
+use Rattle.script_read.specs.Places.{has_source, source_line, vertex_line, edge_line, end_line, phase_line, actor_line, command_line, built_line, line_in}
+use Rattle.script_read.specs.Words.{same, words_of, word_count, word_at, is_name, name, key_number, or_number, key, alone, one_name, two_names}
+
+-- ---- steps
+
+abbrev at : List (List ℕ) → ℕ → List ℕ
+at words i = unwrap_or (slice_get words i) []
+
+-- a step that finds no fault of its own adds none
+then_fine : {A B : Type 0} (r : Result A LineWhy) (f : A → B) → result_err (r >>= (λ x. Ok (f x))) ≡ result_err r
+then_fine (Ok x) f = refl
+then_fine (Err w) f = refl
+
+then_name_by : {B : Type 0} (b : Bool) (word : List ℕ) (f : List ℕ → Result B LineWhy) (o : Option LineWhy) → result_err (f word) ≡ o
+    → result_err ((if b then Ok word else Err why.Name) >>= f) ≡ (if b then o else Some why.Name)
+then_name_by true word f o h = h
+then_name_by false word f o h = refl
+
+-- a word that is due as a name, and a step behind it
+then_name : {B : Type 0} (word : List ℕ) (f : List ℕ → Result B LineWhy) (o : Option LineWhy) → result_err (f word) ≡ o
+    → result_err (name word >>= f) ≡ (if is_name word then o else Some why.Name)
+unfolding name
+then_name word f o h = then_name_by (is_name word) word f o h
+
+then_key_by : {B : Type 0} (k : Option ℤ) (f : ℤ → Result B LineWhy) (o : Option LineWhy) → ((z : ℤ) → result_err (f z) ≡ o)
+    → result_err (or_number k >>= f) ≡ (if is_some k then o else Some why.Number)
+then_key_by (Some z) f o h = h z
+then_key_by None f o h = refl
+
+-- a word that is due as a key, and a step behind it
+then_key : {B : Type 0} (word : List ℕ) (f : ℤ → Result B LineWhy) (o : Option LineWhy) → ((z : ℤ) → result_err (f z) ≡ o)
+    → result_err (key word >>= f) ≡ (if is_some (key_number word) then o else Some why.Number)
+unfolding key
+then_key word f o h = then_key_by (key_number word) f o h
+
+or_none : (o : Option LineWhy) → option_or o None ≡ o
+or_none None = refl
+or_none (Some w) = refl
+
+-- what is due before and behind a test
+or_behind : (b : Bool) (w : LineWhy) (o : Option LineWhy) → option_or (if b then None else Some w) o ≡ (if b then o else Some w)
+or_behind true w o = refl
+or_behind false w o = refl
+
+either_why : (b : Bool) (word : List ℕ) → result_err (if b then Ok word else Err why.Name) ≡ (if b then None else Some why.Name)
+either_why true word = refl
+either_why false word = refl
+
+-- ---- the words of a line
+
+none_behind : (words : List (List ℕ)) → result_err (if not (length words == 1) then Err why.Form else Ok (tt {0})) ≡ words_why [] words
+none_behind [] = refl
+none_behind (a ∷ []) = refl
+none_behind (a ∷ b ∷ words) = rw (ne_eqb (length (a ∷ b ∷ words)) 1 (omega arith)) refl
+
+name_behind : (words : List (List ℕ)) → result_err (if not (length words == 2) then Err why.Form else name (at words 1)) ≡ words_why (a_name ∷ []) words
+unfolding name
+name_behind [] = refl
+name_behind (a ∷ []) = refl
+name_behind (a ∷ b ∷ []) = either_why (is_name b) b
+name_behind (a ∷ b ∷ c ∷ words) = rw (ne_eqb (length (a ∷ b ∷ c ∷ words)) 2 (omega arith)) refl
+
+key_behind : {B : Type 0} (words : List (List ℕ)) (f : ℤ → B)
+    → result_err (if not (length words == 2) then Err why.Form else (key (at words 1) >>= (λ x. Ok (f x)))) ≡ words_why (a_key ∷ []) words
+key_behind [] f = refl
+key_behind (a ∷ []) f = refl
+key_behind (a ∷ b ∷ []) f = then_key b _ None (λ z. refl)
+key_behind (a ∷ b ∷ c ∷ words) f = rw (ne_eqb (length (a ∷ b ∷ c ∷ words)) 2 (omega arith)) refl
+
+keys_behind : {B : Type 0} (words : List (List ℕ)) (f : ℤ → ℤ → ℤ → B)
+    → result_err (if not (length words == 4) then Err why.Form else (key (at words 1) >>= (λ x. key (at words 2) >>= (λ y. key (at words 3) >>= (λ z. Ok (f x y z))))))
+    ≡ words_why (a_key ∷ a_key ∷ a_key ∷ []) words
+keys_behind [] f = refl
+keys_behind (a ∷ []) f = refl
+keys_behind (a ∷ b ∷ []) f = refl
+keys_behind (a ∷ b ∷ c ∷ []) f = refl
+keys_behind (a ∷ b ∷ c ∷ d ∷ []) f = then_key b _ _ (λ x. then_key c _ _ (λ y. then_key d _ None (λ z. refl)))
+keys_behind (a ∷ b ∷ c ∷ d ∷ e ∷ words) f = rw (ne_eqb (length (a ∷ b ∷ c ∷ d ∷ e ∷ words)) 4 (omega arith)) refl
+
+two_by : (b : Bool) (u v : List ℕ)
+    → result_err {T = List ℕ × List ℕ} (if not b then Err why.Form else (name u >>= (λ x. name v >>= (λ y. Ok (x, y)))))
+    ≡ (if b then (if is_name u then (if is_name v then None else Some why.Name) else Some why.Name) else Some why.Form)
+two_by true u v = then_name u _ _ (then_name v _ None refl)
+two_by false u v = refl
+
+two_names_behind : (words : List (List ℕ)) (link : List ℕ)
+    → result_err {T = List ℕ × List ℕ} (if not ((length words == 4) && same (at words 2) link) then Err why.Form else (name (at words 1) >>= (λ x. name (at words 3) >>= (λ y. Ok (x, y)))))
+    ≡ words_why (a_name ∷ text link ∷ a_name ∷ []) words
+two_names_behind [] link = refl
+two_names_behind (a ∷ []) link = refl
+two_names_behind (a ∷ b ∷ []) link = refl
+two_names_behind (a ∷ b ∷ c ∷ []) link = refl
+two_names_behind (a ∷ b ∷ c ∷ d ∷ []) link = two_by (same c link) b d
+two_names_behind (a ∷ b ∷ c ∷ d ∷ e ∷ words) link = rw (ne_eqb (length (a ∷ b ∷ c ∷ d ∷ e ∷ words)) 4 (omega arith)) refl
+
+-- a name and a text that is due, with a test of the name behind them
+tested_by : {B : Type 0} (b : Bool) (u : List ℕ) (f : List ℕ → Result B LineWhy) (o : Option LineWhy) → result_err (f u) ≡ o
+    → result_err (if not b then Err why.Form else (name u >>= f)) ≡ option_or (if b then (if is_name u then None else Some why.Name) else Some why.Form) o
+tested_by true u f o h = then_name u f o h ∙ sym (or_behind (is_name u) why.Name o)
+tested_by false u f o h = refl
+
+tested_behind : {B : Type 0} (words : List (List ℕ)) (word : List ℕ) (f : List ℕ → Result B LineWhy) (o : Option LineWhy) → result_err (f (at words 1)) ≡ o
+    → result_err (if not ((length words == 3) && same (at words 2) word) then Err why.Form else (name (at words 1) >>= f))
+    ≡ option_or (words_why (a_name ∷ text word ∷ []) words) o
+tested_behind [] word f o h = refl
+tested_behind (a ∷ []) word f o h = refl
+tested_behind (a ∷ b ∷ []) word f o h = refl
+tested_behind (a ∷ b ∷ c ∷ []) word f o h = tested_by (same c word) b f o h
+tested_behind (a ∷ b ∷ c ∷ d ∷ words) word f o h = rw (ne_eqb (length (a ∷ b ∷ c ∷ d ∷ words)) 3 (omega arith)) refl
+
+-- ---- lines
+
+-- the why of a step at a line is that of this row
+abbrev Why : {A : Type 0} → Result A LineWhy → List Due → List ℕ → Type 0
+Why r dues line = result_err r ≡ words_why dues (words_of line)
+
+alone_why : (line : List ℕ) → Why (alone line) [] line
+unfolding alone word_count
+alone_why line = none_behind (words_of line)
+
+one_name_why : (line : List ℕ) → Why (one_name line) (a_name ∷ []) line
+unfolding one_name word_count word_at
+one_name_why line = name_behind (words_of line)
+
+two_names_why : (line link : List ℕ) → Why (two_names line link) (a_name ∷ text link ∷ a_name ∷ []) line
+unfolding two_names word_count word_at
+two_names_why line link = two_names_behind (words_of line) link
+
+open_why : (line : List ℕ) → Why (open_of line) [] line
+unfolding open_of
+open_why line = then_fine (alone line) _ ∙ alone_why line
+
+close_why : (line : List ℕ) → Why (close_of line) [] line
+unfolding close_of
+close_why line = then_fine (alone line) _ ∙ alone_why line
+
+columns_why : (line : List ℕ) → Why (columns_of line) [] line
+unfolding columns_of
+columns_why line = then_fine (alone line) _ ∙ alone_why line
+
+load_why : (line : List ℕ) → Why (load_of line) (a_name ∷ text (codes "from") ∷ a_name ∷ []) line
+unfolding load_of
+load_why line = then_fine (two_names line (codes "from")) _ ∙ two_names_why line (codes "from")
+
+clone_why : (line : List ℕ) → Why (clone_of line) (a_name ∷ text (codes "from") ∷ a_name ∷ []) line
+unfolding clone_of
+clone_why line = then_fine (two_names line (codes "from")) _ ∙ two_names_why line (codes "from")
+
+release_why : (line : List ℕ) → Why (release_of line) (a_name ∷ []) line
+unfolding release_of
+release_why line = then_fine (one_name line) _ ∙ one_name_why line
+
+show_why : (line : List ℕ) → Why (show_of line) (a_name ∷ []) line
+unfolding show_of
+show_why line = then_fine (one_name line) _ ∙ one_name_why line
+
+rows_why : (line : List ℕ) → Why (rows_of line) (a_name ∷ []) line
+unfolding rows_of
+rows_why line = then_fine (one_name line) _ ∙ one_name_why line
+
+-- the row that is looked up, or the rows behind it
+chosen : {A : Type 0} (words : List (List ℕ)) (b : Bool) (x y : Result A LineWhy) (row : Row) (rest : Option Row)
+    → result_err x ≡ words_why row.1 words → result_err y ≡ row_why words rest
+    → result_err (if b then x else y) ≡ row_why words (if b then Some row else rest)
+chosen words true x y row rest e f = e
+chosen words false x y row rest e f = f
+
+-- the row of a line in a place
+abbrev row_of : Place → List ℕ → Option Row
+row_of p line = find (λ row. same (word_at line 0) row.0) (rows_in p)
+
+form_why : (line : List ℕ) → result_err (form_of line) ≡ row_why (words_of line) (row_of place.Actor line)
+unfolding form_of graph_form_of
+form_why line =
+    chosen _ (same (word_at line 0) (codes "open")) _ _ _ _ (open_why line)
+    (chosen _ (same (word_at line 0) (codes "close")) _ _ _ _ (close_why line)
+    (chosen _ (same (word_at line 0) (codes "columns")) _ _ _ _ (columns_why line)
+    (chosen _ (same (word_at line 0) (codes "load")) _ _ _ _ (load_why line)
+    (chosen _ (same (word_at line 0) (codes "clone")) _ _ _ _ (clone_why line)
+    (chosen _ (same (word_at line 0) (codes "release")) _ _ _ _ (release_why line)
+    (chosen _ (same (word_at line 0) (codes "show")) _ _ _ _ (show_why line)
+    (chosen _ (same (word_at line 0) (codes "rows")) _ _ _ _ (rows_why line) refl)))))))
+
+-- a test of the limit behind a step
+full_by : {A B : Type 0} (r : Result A LineWhy) (full : Bool) (f : A → B)
+    → result_err (r >>= (λ x. if full then Err why.Many else Ok (f x))) ≡ option_or (result_err r) (if full then Some why.Many else None)
+full_by (Ok x) true f = refl
+full_by (Ok x) false f = refl
+full_by (Err w) full f = refl
+
+command_why : (s : Reading) (line : List ℕ)
+    → result_err (command_line s line) ≡ option_or (row_why (words_of line) (row_of place.Actor line)) (limit_why place.Actor s line)
+unfolding command_line command_of
+command_why s line =
+    full_by (form_of line >>= (λ f. Ok (record { line = line; form = f }))) (nat_le 65536 (length s.commands)) _
+    ∙ ap (λ (o : Option LineWhy). option_or o (limit_why place.Actor s line)) (then_fine (form_of line) _ ∙ form_why line)
+
+source_test : {B : Type 0} (standing full : Bool) (x : B)
+    → result_err (if standing then Err why.Twice else (if full then Err why.Many else Ok x)) ≡ (if standing then Some why.Twice else (if full then Some why.Many else None))
+source_test true full x = refl
+source_test false true x = refl
+source_test false false x = refl
+
+source_why : (s : Reading) (line : List ℕ)
+    → result_err (source_line s line)
+    ≡ option_or (words_why (a_name ∷ text (codes "inline") ∷ []) (words_of line))
+    (if has_source s.sources (word_at line 1) then Some why.Twice else (if nat_le 64 (length s.sources) then Some why.Many else None))
+unfolding source_line word_count word_at
+source_why s line = tested_behind (words_of line) (codes "inline") _ _ (source_test _ _ _)
+
+phase_why : (s : Reading) (line : List ℕ) → Why (phase_line s line) [] line
+unfolding phase_line
+phase_why s line = then_fine (alone line) _ ∙ alone_why line
+
+actor_why : (s : Reading) (line : List ℕ) → Why (actor_line s line) (a_name ∷ []) line
+unfolding actor_line
+actor_why s line = then_fine (one_name line) _ ∙ one_name_why line
+
+vertex_why : (s : Reading) (line : List ℕ) → Why (vertex_line s line) (a_key ∷ []) line
+unfolding vertex_line word_count word_at
+vertex_why s line = key_behind (words_of line) _
+
+edge_why : (s : Reading) (line : List ℕ) → Why (edge_line s line) (a_key ∷ a_key ∷ a_key ∷ []) line
+unfolding edge_line word_count word_at
+edge_why s line = keys_behind (words_of line) _
+
+end_why : (s : Reading) (line : List ℕ) → Why (end_line s line) [] line
+unfolding end_line
+end_why s line = then_fine (alone line) _ ∙ alone_why line
+
+-- ---- places
+
+start_by : {A : Type 0} (words : List (List ℕ)) (source phase : Bool) (x y : Result A LineWhy) (r q : Row) (o : Option LineWhy)
+    → result_err x ≡ option_or (words_why r.1 words) o → result_err y ≡ words_why q.1 words
+    → result_err (if source then x else (if phase then y else Err why.Word))
+    ≡ option_or (row_why words (if source then Some r else (if phase then Some q else None))) (if not source then None else o)
+start_by words true phase x y r q o e f = e
+start_by words false true x y r q o e f = f ∙ sym (or_none _)
+start_by words false false x y r q o e f = refl
+
+-- a line of a place, by the table
+abbrev TableWhy : Place → Reading → List ℕ → Type 0
+TableWhy p s line = result_err (built_line p s line) ≡ option_or (row_why (words_of line) (row_of p line)) (limit_why p s line)
+
+built_why : (p : Place) (s : Reading) (line : List ℕ) → TableWhy p s line
+unfolding built_line
+built_why place.Start s line =
+    start_by (words_of line) (same (word_at line 0) (codes "source")) (same (word_at line 0) (codes "phase")) _ _ _ _ _ (source_why s line) (phase_why s line)
+built_why place.Vertices s line =
+    chosen _ (same (word_at line 0) (codes "v")) _ _ _ _ (vertex_why s line)
+    (chosen _ (same (word_at line 0) (codes "e")) _ _ _ _ (edge_why s line)
+    (chosen _ (same (word_at line 0) (codes "end")) _ _ _ _ (end_why s line) refl)) ∙ sym (or_none _)
+built_why place.Edges s line =
+    chosen _ (same (word_at line 0) (codes "e")) _ _ _ _ (edge_why s line)
+    (chosen _ (same (word_at line 0) (codes "end")) _ _ _ _ (end_why s line) refl) ∙ sym (or_none _)
+built_why place.Phase s line = chosen _ (same (word_at line 0) (codes "actor")) _ _ _ _ (actor_why s line) refl ∙ sym (or_none _)
+built_why place.Actor s line = command_why s line
+
+-- the tests before the table
+before_by : {A : Type 0} (is_passed no_text later : Bool) (s : A) (r : Result A LineWhy) (o : Option LineWhy) → result_err r ≡ o
+    → result_err (if is_passed then Ok s else (if no_text then Err why.Utf8 else (if later then Err why.Later else r)))
+    ≡ (if is_passed then None else (if no_text then Some why.Utf8 else (if later then Some why.Later else o)))
+before_by true no_text later s r o h = refl
+before_by false true later s r o h = refl
+before_by false false true s r o h = refl
+before_by false false false s r o h = h
+
+-- what a line finds is its first why
+pub line_why : (s : Reading) (line : List ℕ) → result_err (line_step s line) ≡ first_why s line
+unfolding line_step line_in
+line_why s line = before_by (is_passed line) (not (is_utf8 line)) (comes_later s.place (word_at line 0)) s _ _ (built_why s.place s line)

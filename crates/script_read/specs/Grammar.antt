@@ -1,0 +1,84 @@
+-- The grammar as a table of lines, and the first why that a line has by it.
+use Rattle.std.specs.Prelude.{ℕ, ◌&&◌, Bool, true, false, not, nat_le, if◌then◌else◌, is_some, find, List, [], ◌∷◌, length, codes, Option, Some, None}
+use Rattle.std.specs.Option.{option_or}
+use Rattle.std.specs.Str.{is_utf8}
+use Rattle.script_read.specs.declared.fault.LineWhy.{LineWhy}
+use Rattle.script_read.specs.declared.fault.LineWhy.TheVariants as why
+use Rattle.script_read.specs.declared.reading.Place.{Place}
+use Rattle.script_read.specs.declared.reading.Place.TheVariants as place
+use Rattle.script_read.specs.declared.reading.Reading.{Reading}
+use Rattle.script_read.specs.Later.{comes_later}
+use Rattle.script_read.specs.Lines.{is_passed}
+use Rattle.script_read.specs.Places.{has_source}
+use Rattle.script_read.specs.Words.{same, words_of, word_at, is_name, key_number}
+
+-- what is due at a word: this text, a name or a key
+pub data Due : Type 0 where
+  text : List ℕ → Due
+  a_name : Due
+  a_key : Due
+
+-- a line: its first word, and what is due behind it
+abbrev pub Row : Type 0
+Row = List ℕ × List Due
+
+-- the lines that are built, by the place where they are allowed
+abbrev pub rows_in : Place → List Row
+rows_in place.Start = (codes "source", a_name ∷ text (codes "inline") ∷ []) ∷ (codes "phase", []) ∷ []
+rows_in place.Vertices = (codes "v", a_key ∷ []) ∷ (codes "e", a_key ∷ a_key ∷ a_key ∷ []) ∷ (codes "end", []) ∷ []
+rows_in place.Edges = (codes "e", a_key ∷ a_key ∷ a_key ∷ []) ∷ (codes "end", []) ∷ []
+rows_in place.Phase = (codes "actor", a_name ∷ []) ∷ []
+rows_in place.Actor =
+    (codes "open", [])
+    ∷ (codes "close", [])
+    ∷ (codes "columns", [])
+    ∷ (codes "load", a_name ∷ text (codes "from") ∷ a_name ∷ [])
+    ∷ (codes "clone", a_name ∷ text (codes "from") ∷ a_name ∷ [])
+    ∷ (codes "release", a_name ∷ [])
+    ∷ (codes "show", a_name ∷ [])
+    ∷ (codes "rows", a_name ∷ [])
+    ∷ []
+
+-- whether so many words stand, with the texts that are due
+abbrev pub fits : List Due → List (List ℕ) → Bool
+fits [] [] = true
+fits (text t ∷ dues) (word ∷ words) = fits dues words && same word t
+fits (a_name ∷ dues) (word ∷ words) = fits dues words
+fits (a_key ∷ dues) (word ∷ words) = fits dues words
+fits dues words = false
+
+-- the why of the leftmost word that is not the name or number that is due
+abbrev pub wrong_word : List Due → List (List ℕ) → Option LineWhy
+wrong_word (text t ∷ dues) (word ∷ words) = wrong_word dues words
+wrong_word (a_name ∷ dues) (word ∷ words) = if is_name word then wrong_word dues words else Some why.Name
+wrong_word (a_key ∷ dues) (word ∷ words) = if is_some (key_number word) then wrong_word dues words else Some why.Number
+wrong_word dues words = None
+
+-- the why of a line's words, where this is due behind the first
+abbrev pub words_why : List Due → List (List ℕ) → Option LineWhy
+words_why dues [] = Some why.Form
+words_why dues (word ∷ words) = if fits dues words then wrong_word dues words else Some why.Form
+
+-- the why of a line's words, where the line is this row, or no row begins with its first word
+abbrev pub row_why : List (List ℕ) → Option Row → Option LineWhy
+row_why words None = Some why.Word
+row_why words (Some row) = words_why row.1 words
+
+-- a source whose name stands again, the 65th source, the 65,537th command
+abbrev pub limit_why : Place → Reading → List ℕ → Option LineWhy
+limit_why place.Start s line =
+    if not (same (word_at line 0) (codes "source")) then None
+    else if has_source s.sources (word_at line 1) then Some why.Twice
+    else if nat_le 64 (length s.sources) then Some why.Many
+    else None
+limit_why place.Actor s line = if nat_le 65536 (length s.commands) then Some why.Many else None
+limit_why p s line = None
+
+-- the first why of a line behind what has been read; none where it is passed over or has no fault. A word that comes later is
+-- allowed, so it does not matter which of `word` and `later` is asked first
+abbrev pub first_why : Reading → List ℕ → Option LineWhy
+first_why s line =
+    if is_passed line then None
+    else if not (is_utf8 line) then Some why.Utf8
+    else if comes_later s.place (word_at line 0) then Some why.Later
+    else option_or (row_why (words_of line) (find (λ row. same (word_at line 0) row.0) (rows_in s.place))) (limit_why s.place s line)

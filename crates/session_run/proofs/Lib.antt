@@ -1,0 +1,4 @@
+pub mod Nexts
+pub mod Stepped
+pub mod Growth
+pub mod Runs

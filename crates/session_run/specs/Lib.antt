@@ -1,0 +1,5 @@
+pub mod Own
+pub mod Next
+pub mod Language
+pub mod Turns
+pub mod Ran
