@@ -9,7 +9,9 @@ pub enum Ask {
     /// Closes the caller's session, with all that it holds.
     CloseSession,
     /// How many changes of a source are to be seen.
-    Peek { source: Text },
+    Peek {
+        source: Text,
+    },
     /// A private graph: the source's opening graph with its first `front` changes applied.
     Place {
         name: Text,
@@ -17,9 +19,15 @@ pub enum Ask {
         front: u64,
     },
     /// A private graph made from one that the session holds.
-    Derive { name: Text, base: Text, how: How },
+    Derive {
+        name: Text,
+        base: Text,
+        how: How,
+    },
     /// Gives up a graph of the session.
-    Release { name: Text },
+    Release {
+        name: Text,
+    },
     /// The numbers of all columns that are in use.
     Columns,
 }

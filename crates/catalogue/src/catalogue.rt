@@ -15,7 +15,9 @@ ghost use Rattle.catalogue.specs.Response.{IsServed, Tests, sid_response};
 
 use crate::reach::reached;
 use crate::response::{Fault, Response, done, name_taken, no_name, no_source, refused};
-use crate::{Gift, Held, Hold, How, Line, Mutation, Refusal, Reply, Session, Snap, Source, SourceData};
+use crate::{
+    Gift, Held, Hold, How, Line, Mutation, Refusal, Reply, Session, Snap, Source, SourceData,
+};
 use column_types::{List, NoMemory, Shared, Text};
 use std::alloc::Global;
 use std::marker::Model;
@@ -72,14 +74,16 @@ fn session_place(sessions: &[Session], who: u32) -> Option<usize>
 fn held_place(held: &[Held], name: &Text) -> Option<usize>
     ensures { result ≡ position (named name.now) held.now }
 {
-    held.iter().position(|graph| graph.name.as_str() == name.as_str())
+    held.iter()
+        .position(|graph| graph.name.as_str() == name.as_str())
 }
 
 /// The graph of that name.
 fn held_as<'a>(held: &'a [Held], name: &Text) -> Option<&'a Held>
     ensures { option_copied result ≡ find (named name.now) held.now }
 {
-    held.iter().find(|graph| graph.name.as_str() == name.as_str())
+    held.iter()
+        .find(|graph| graph.name.as_str() == name.as_str())
 }
 
 /// The session of the caller holds one more graph.
@@ -136,12 +140,7 @@ fn numbers(alloc: Global, first: u64, count: u32) -> Result<List<u64>, NoMemory>
 }
 
 /// A graph that a session holds for itself.
-fn private(
-    alloc: Global,
-    name: &Text,
-    source: Option<&Text>,
-    snap: Snap,
-) -> Result<Held, NoMemory>
+fn private(alloc: Global, name: &Text, source: Option<&Text>, snap: Snap) -> Result<Held, NoMemory>
     ensures { IfOk result (λ held. held ≡ private_graph name.now (option_copied source.entry) snap) }
 {
     let name = Text::from_str(alloc, name.as_str())?;

@@ -1,9 +1,7 @@
 //! What no clause shows: that calls succeed where there is memory, when lists are full, and that what crosses threads may.
 ghost use Rattle.std.specs.Prelude.{◌≡◌, ◌<◌};
 
-use crate::{
-    Ask, Call, Catalogue, Gift, How, Made, Mutation, Refusal, Reply, Snap, SourceData,
-};
+use crate::{Ask, Call, Catalogue, Gift, How, Made, Mutation, Refusal, Reply, Snap, SourceData};
 use column_types::{List, NoMemory, Shared, Steps, Text};
 use graph_model::Graph;
 use graph_schema::{EdgeTable, Schema, SchemaFault, VertexTable, all_named, ends_exist};

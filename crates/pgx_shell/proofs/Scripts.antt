@@ -1,13 +1,11 @@
 -- A script of one actor is run.
-use Rattle.std.proofs.Common.{◌≡◌, ◌≢◌, ◌∙◌, refl, sym, ap, subst, ℕ, zero, suc, ◌+◌, ◌<◌, ◌≤◌, Bool, true, false, List, [], ◌∷◌, ◌++◌, length, map, if◌then◌else◌, eqb, eq-eqb, ne_eqb, Result, Ok, Err, Option, Some, None, IfSome, arith}
-use Rattle.std.specs.Prelude.{All, ⊤}
+use Rattle.std.proofs.Common.{◌≡◌, ◌≢◌, ◌∙◌, refl, sym, ap, subst, ℕ, zero, suc, ◌+◌, ◌≤◌, Bool, List, [], ◌∷◌, ◌++◌, length, map, if◌then◌else◌, eq-eqb, ne_eqb, Ok, Option, Some, None, IfSome, arith}
 use Rattle.std.specs.List.{AllByRecursion}
 use Rattle.std.proofs.lemmas.List.{append-nil}
 use Rattle.std.proofs.lemmas.List.Elements.{recursion_from_All}
 use Rattle.turn_hall.specs.declared.entry.Entry.{Entry}
 use Rattle.turn_hall.specs.Replay.{entries_of, IsLegal}
 use Rattle.actor_records.specs.Agreement.{Stand, AgreesWith, fresh}
-use Rattle.actor_records.specs.Calls.{Todo}
 use Rattle.actor_records.specs.Journal.{AreRecords, IsJournal}
 use Rattle.actor_records.specs.Records.{parts_of}
 use Rattle.actor_records.specs.Walk.{walk}
@@ -26,10 +24,10 @@ use Rattle.script_read.specs.declared.script.Block.{Block}
 use Rattle.script_read.specs.declared.script.Script.{Script}
 use Rattle.session_run.specs.Own.{fresh_own}
 use Rattle.session_run.specs.Language.{ActorMind, rules, first_mind, in_phase, block_todo, phases_todo}
-use Rattle.session_run.specs.Turns.{ActorRecord, Work, worked, stand, Stands}
+use Rattle.session_run.specs.Turns.{ActorRecord, worked, stand, Stands}
 use Rattle.session_run.specs.Ran.{between, IsAtWork, Ran}
-use Rattle.pgx_shell.specs.Due.{script_due, due, IsRun, IsRunNamed}
-use Rattle.pgx_shell.specs.Opening.{◌>>=◌, opened as sources_opened}
+use Rattle.pgx_shell.specs.Due.{script_due, IsRun, IsRunNamed}
+use Rattle.pgx_shell.specs.Opening.{opened as sources_opened}
 use Rattle.pgx_shell.specs.Run.{IsRunOf, HasNoCommand, HasRun, one_phase, only_block}
 
 -- the history before any call

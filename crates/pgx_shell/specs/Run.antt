@@ -21,7 +21,8 @@ HasNoCommand mind = mind.todo ≡ []
 
 -- J is the journal of a run of the script over its open sources: a proper journal of its actors, in which each makes exactly the
 -- calls of its commands, with the replies of one thread from the state in which the sources are open and nobody has a session.
--- Each phase ended after so many core calls, and the core calls of a phase stand between the end of the one before and its own.
+-- The phases are parted by numbers that do not fall: the core calls of a phase have numbers past the first of its two, and not past
+-- the second.
 pub record IsRunOf (script : Script) (sources : List SourceData) (J : List ActorRecord) : Type 0 where
   pub ends : ℕ → ℕ
   pub rises : (phase : ℕ) → ends phase ≤ ends (phase + 1)

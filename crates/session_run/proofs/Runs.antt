@@ -1,20 +1,19 @@
 -- Commands, done call by call and one after another.
-use Rattle.std.proofs.Common.{◌≡◌, ℕ, ◌+◌, ◌*◌, ◌<◌, ◌≤◌, ◌⊎◌, inl, inr, Bool, true, false, List, [], ◌∷◌, ◌++◌, length, map, length-append, append_assoc, if◌then◌else◌, sym, refl, ap, ◌∙◌, subst, arith}
+use Rattle.std.proofs.Common.{◌≡◌, ℕ, ◌+◌, ◌*◌, ◌<◌, ◌≤◌, inl, inr, Bool, true, false, List, [], ◌∷◌, ◌++◌, length, map, length-append, append_assoc, if◌then◌else◌, sym, refl, ap, ◌∙◌, subst, arith}
 use Rattle.std.proofs.lemmas.List.{map-append}
 use Rattle.std.specs.Prelude.{Option, Some, None, is_none}
-use Rattle.actor_records.specs.Calls.{Todo, go_on, mind_told}
-use Rattle.catalogue.specs.Step.{step}
+use Rattle.actor_records.specs.Calls.{Todo}
 use Rattle.catalogue.specs.Bound.{data_of}
 use Rattle.catalogue.specs.declared.ask.Ask.{Ask}
 use Rattle.catalogue.specs.declared.reply.Reply.{Reply}
 use Rattle.catalogue.specs.declared.parts.SourceData.{SourceData}
 use Rattle.call_text.specs.Asks.{ask_text}
 use Rattle.script_read.specs.declared.script.Command.{Command}
-use Rattle.session_run.specs.Own.{OwnPart, own_local}
+use Rattle.session_run.specs.Own.{own_local}
 use Rattle.session_run.specs.Next.{next_call, is_local}
-use Rattle.session_run.specs.Language.{ActorMind, language, in_phase}
-use Rattle.session_run.specs.Turns.{Work, Stands, answered, starved, done_locally, sources_of, CallEnds, LocalEnds}
-use Rattle.session_run.specs.Ran.{between, IsAtWork, IsOn, Ran, Going, Leads, Goes, Grew}
+use Rattle.session_run.specs.Language.{ActorMind, in_phase}
+use Rattle.session_run.specs.Turns.{Work, Stands, answered, starved, sources_of, CallEnds, LocalEnds}
+use Rattle.session_run.specs.Ran.{between, IsAtWork, IsOn, Ran, Going}
 use Rattle.session_run.proofs.Nexts.{first_call, local_has_none}
 use Rattle.session_run.proofs.Growth.{place_behind, starved_records, locally_records, grew_none, grew_answered, grew_starved, grew_locally, grew_within, grew_on, longer_book}
 use Rattle.session_run.proofs.Stepped.{amid, core_stands, core_starves, local_stands, local_starves}

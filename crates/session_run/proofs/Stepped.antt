@@ -1,12 +1,12 @@
 -- Each turn of an actor keeps its records in agreement with the history.
 use Rattle.std.proofs.Common.{◌≡◌, ℕ, ◌+◌, ◌<◌, ◌≤◌, Bool, true, false, List, [], ◌∷◌, ◌++◌, length, sym, refl, subst, arith}
-use Rattle.std.specs.Prelude.{Option, Some, None}
+use Rattle.std.specs.Prelude.{Some}
 use Rattle.std.specs.Bool.{MatchBool}
 use Rattle.turn_hall.specs.Replay.{entry, replay}
-use Rattle.actor_records.specs.declared.record.Did.TheVariants.{Core, Local, Starved}
+use Rattle.actor_records.specs.declared.record.Did.TheVariants.{Local, Starved}
 use Rattle.actor_records.specs.Records.{core_record}
-use Rattle.actor_records.specs.Agreement.{Agrees, AgreesWith, fresh, after_core, after_local, IsLocal}
-use Rattle.actor_records.specs.Calls.{Todo, Mind, mind_told, InPhase, IsCall}
+use Rattle.actor_records.specs.Agreement.{Agrees, fresh, after_core}
+use Rattle.actor_records.specs.Calls.{Todo, mind_told, IsCall}
 use Rattle.actor_records.proofs.Agreement.{agrees_core, agrees_local}
 use Rattle.catalogue.specs.Step.{step}
 use Rattle.catalogue.specs.declared.ask.Ask.{Ask}
@@ -17,7 +17,7 @@ use Rattle.script_read.specs.declared.script.Command.{Command}
 use Rattle.session_run.specs.Own.{OwnPart, own_local}
 use Rattle.session_run.specs.Next.{next_call, is_local}
 use Rattle.session_run.specs.Language.{ActorMind, language, rules}
-use Rattle.session_run.specs.Turns.{Work, ActorRecord, Stands, stand, answered, starved, done_locally, record_at}
+use Rattle.session_run.specs.Turns.{Work, Stands, stand, answered, starved, done_locally, record_at}
 use Rattle.session_run.specs.Ran.{between}
 
 module _ (sources : List SourceData) (ends : ℕ → ℕ) (first : ActorMind) (who : ℕ) where

@@ -1,6 +1,5 @@
 -- One actor's turns on a catalogue that one thread has to itself: what each of them leaves.
 use Rattle.std.specs.Prelude.{◌≡◌, ◌⊎◌, ℕ, ◌+◌, ◌-◌, map, List, [], ◌∷◌, ◌++◌, Option, Some, None, length, slice_get}
-use Rattle.turn_hall.specs.declared.entry.Entry.{Entry}
 use Rattle.turn_hall.specs.Replay.{entry}
 use Rattle.actor_records.specs.declared.record.Did.TheVariants.{Local, Starved}
 use Rattle.actor_records.specs.Records.{core_record}
@@ -19,7 +18,7 @@ use Rattle.actor_records.specs.declared.record.Did.{Did}
 use Rattle.actor_records.specs.declared.record.Record.{Record}
 use Rattle.session_run.specs.declared.record.LocalReply.{LocalReply}
 use Rattle.session_run.specs.Own.{OwnPart, own_told, own_local}
-use Rattle.session_run.specs.Language.{ActorMind, rules, in_phase}
+use Rattle.session_run.specs.Language.{ActorMind, rules}
 
 -- what an actor did, and its record
 abbrev pub ActorDid : Type 0

@@ -1,4 +1,4 @@
-use Rattle.std.specs.Prelude.{◌≡◌, [], ◌∷◌, Some, None, refl}
+use Rattle.std.specs.Prelude.{◌≡◌, Some, None, refl}
 use Rattle.pgx_shell.specs.Run.{only_block}
 use Rattle.pgx_shell.proofs.Names.{names_differ}
 use Rattle.pgx_shell.proofs.Scripts.{idle_run, block_run}

@@ -1,7 +1,6 @@
-use Rattle.std.specs.Prelude.{◌≡◌, ◌<◌, ◌+◌, length, Some, None}
-use Rattle.std.proofs.Common.{rules, arith, sym, length-append}
+use Rattle.std.specs.Prelude.{◌≡◌, ◌+◌, length, Some, None}
+use Rattle.std.proofs.Common.{arith, sym, length-append}
 use Rattle.session_run.specs.Next.{next_call}
-use Rattle.session_run.specs.Turns.{Work, work}
 use Rattle.session_run.proofs.Nexts.{calls_are_few}
 use Rattle.session_run.proofs.Runs.{going_start, going_answered, going_starved, going_ended, going_has_room, ran_locally}
 use Rattle.session_run.proofs.session.run_command.Goals as goal
