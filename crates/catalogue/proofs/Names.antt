@@ -1,9 +1,8 @@
 -- The names of sources.
-use Rattle.std.proofs.Common.{◌≡◌, ℕ, ◌+◌, ◌≤◌, List, [], ◌∷◌, Bool, true, false, sym, subst, cond, arith}
+use Rattle.std.proofs.Common.{ℕ, ◌+◌, ◌≤◌, [], ◌∷◌, Bool, true, false, sym, subst, cond, arith}
 use Rattle.std.specs.Str.{bytes_eq}
 use Rattle.std.proofs.lemmas.List.Sums.{sum_by-cons}
 use Rattle.catalogue.specs.declared.parts.SourceData.{SourceData}
-use Rattle.catalogue.specs.State.{Name}
 use Rattle.catalogue.specs.Bound.{NamesDiffer}
 
 at_most_one : (b : Bool) → cond {A = ℕ} b 1 0 + 0 ≤ 1

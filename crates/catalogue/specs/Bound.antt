@@ -6,6 +6,7 @@ use Rattle.catalogue.specs.declared.parts.SourceData.{SourceData}
 use Rattle.catalogue.specs.declared.parts.Source.{Source}
 use Rattle.catalogue.specs.State.{Name, State}
 
+-- a source of which no change is to be seen, and the source alone
 abbrev pub unfed : SourceData → Source
 unfed d = record { «data» = d; visible = 0 }
 

@@ -49,9 +49,9 @@ module _ {X : Type 0} where
 -- ---- what a step adds
 
 -- what one step may add; it adds up along a history
-pub record IsRaised (m n : State) : Type 0 where
-  pub sids : n.next_sid ≤ m.next_sid + 1
-  pub columns : n.next_column + 2208 * m.next_sid ≤ m.next_column + 2208 * n.next_sid
+record IsRaised (m n : State) : Type 0 where
+  sids : n.next_sid ≤ m.next_sid + 1
+  columns : n.next_column + 2208 * m.next_sid ≤ m.next_column + 2208 * n.next_sid
 
 few_derived : (how : How) → new_columns how ≤ 2208
 few_derived (Mutate Clone) = omega arith

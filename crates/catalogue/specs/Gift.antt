@@ -10,6 +10,7 @@ use Rattle.catalogue.specs.declared.parts.Source.{Source}
 use Rattle.catalogue.specs.declared.parts.Held.{Held}
 use Rattle.catalogue.specs.State.{Name, State, session_of, source_of, held_of}
 
+-- the source, or the snapshot of the graph; nothing where there is none
 abbrev pub source_gift : Option Source → Gift
 source_gift None = gift.Nothing
 source_gift (Some s) = gift.Source s.data

@@ -19,6 +19,7 @@ pub record IsServed (old : State) (who : ℕ) (ask : Ask) (new : State) (r : Res
   pub kept : r.kept ≡ r.reply
   pub gift : r.gift ≡ gift_of new who ask r.reply
 
+-- a response that tells one reply, and hands out nothing or the snapshot that came
 abbrev pub done_response : Response
 done_response = record { kept = Done; reply = Done; gift = gift.Nothing }
 

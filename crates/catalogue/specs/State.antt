@@ -24,9 +24,11 @@ pub record State : Type 0 where
 
 -- ---- look-ups
 
+-- the session of a caller
 abbrev pub of_who : ℕ → Session → Bool
 of_who who s = s.who == who
 
+-- the source of a name, and the graph of a name
 abbrev pub from_source : Name → Source → Bool
 from_source n s = bytes_eq s.data.name n
 
@@ -43,11 +45,11 @@ source_of m n = find (from_source n) m.sources
 abbrev pub held_of : Session → Name → Option Held
 held_of s n = find (named n) s.held
 
+-- what a session holds; nothing where there is none
 abbrev pub held_in : Option Session → List Held
 held_in None = []
 held_in (Some s) = s.held
 
--- what a caller holds: nothing where it has no session
 abbrev pub holds : State → ℕ → List Held
 holds m who = held_in (session_of m who)
 
@@ -64,6 +66,7 @@ drop_first test (x ∷ xs) = if test x then xs else x ∷ drop_first test xs
 
 -- ---- reachability
 
+-- the snapshots of the graphs that a session holds
 abbrev pub snaps_of : List Held → List Snap
 snaps_of held = map (λ h. h.snap) held
 

@@ -25,6 +25,7 @@ Answer = Reply × State
 
 -- ---- tests, each with its refusal, which leaves the state
 
+-- the refusal, and the state as it was
 abbrev pub refuse : State → Refusal → Answer
 refuse m r = (Refused r, m)
 
@@ -44,12 +45,14 @@ is_full s = nat_le 256 (length s.held)
 
 -- ---- changes of the state
 
+-- a session that holds one graph more, and one that gives up the graph of a name
 abbrev pub hold_more : Held → Session → Session
 hold_more h s = record s { held = s.held ++ h ∷ [] }
 
 abbrev pub let_go : Name → Session → Session
 let_go n s = record s { held = drop_first (named n) s.held }
 
+-- the state with the caller's session changed
 abbrev pub with_session : State → ℕ → (Session → Session) → State
 with_session m who f = record m { sessions = change_first (of_who who) f m.sessions }
 
@@ -75,6 +78,7 @@ derived m base (Mutate Clone) = record { sid = m.next_sid; front = 0; shot = bas
 abbrev pub new_columns : How → ℕ
 new_columns (Mutate Clone) = 0
 
+-- a graph that a session holds for itself
 abbrev pub private_graph : Name → Option Name → Snap → Held
 private_graph name source snap = record { name = name; hold = Private source; snap = snap }
 

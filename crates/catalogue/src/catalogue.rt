@@ -1,14 +1,13 @@
 //! The catalogue.
-ghost use Rattle.std.specs.Prelude.{◌≡◌, ℕ, ◌+◌, ◌≤◌, ◌<◌, ◌^◌, IfOk, OnOk, OnErr, IsTrue, ◌↔◌, length, map, find, Some, None, is_some, nat_le, position, Contains};
+ghost use Rattle.std.specs.Prelude.{◌≡◌, ℕ, ◌+◌, ◌≤◌, ◌<◌, ◌^◌, IfOk, OnOk, OnErr, IsTrue, ◌↔◌, length, map, find, Some, None, position, Contains};
 ghost use Rattle.std.specs.Option.{option_copied};
 ghost use Rattle.std.specs.List.{All, range_with_len};
 ghost use Rattle.graph_slots.specs.Slots.{slots};
 ghost use Rattle.catalogue.specs.declared.ask.Ask.{Ask};
 ghost use Rattle.catalogue.specs.declared.parts.Session.{Session as SessionData};
-ghost use Rattle.catalogue.specs.declared.parts.Hold.TheVariants.{Private};
 ghost use Rattle.catalogue.specs.declared.reply.Reply.TheVariants.{Sid, Done};
-ghost use Rattle.catalogue.specs.State.{named, of_who, session_of, source_of, held_of, change_first, drop_first};
-ghost use Rattle.catalogue.specs.Step.{step, is_full, hold_more, let_go, placed, derived, new_columns, private_graph, drawn, with_one_more, without_session, with_session};
+ghost use Rattle.catalogue.specs.State.{named, of_who, session_of, source_of, change_first, drop_first};
+ghost use Rattle.catalogue.specs.Step.{step, hold_more, let_go, placed, derived, new_columns, private_graph, drawn, with_one_more, without_session, with_session};
 ghost use Rattle.catalogue.specs.Bound.{unfed, opened, HasSmall, IsReady, NamesDiffer};
 ghost use Rattle.catalogue.specs.Kept.{IsKept, MayHold};
 ghost use Rattle.catalogue.specs.Response.{IsServed, Tests, sid_response};
@@ -179,7 +178,7 @@ impl Catalogue {
         let _ = &self.sessions;
     }
 
-    /// Whether there are numbers left for one more snapshot and its columns, as there are at the first 33,554,431 calls.
+    /// Whether there are numbers left for one more snapshot and its columns, as there are at each of the first 33,554,432 calls.
     pub fn is_ready(&self) -> bool
         ensures { IsTrue result ↔ IsReady self.now }
     {
