@@ -1,1 +1,14 @@
 pub mod Histories
+pub mod Indexed
+pub mod Tickets
+pub mod Maps
+pub mod Slots
+pub mod Numbers
+pub mod Steps
+pub mod Merging
+pub mod Seats
+pub mod Grown
+pub mod Owns
+pub mod Calling
+pub mod Closing
+pub mod Passing

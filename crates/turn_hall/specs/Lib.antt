@@ -1,1 +1,6 @@
 pub mod Replay
+pub mod Seen
+pub mod Queue
+pub mod Rule
+pub mod Steps
+pub mod Handle

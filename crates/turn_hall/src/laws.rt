@@ -1,7 +1,8 @@
 //! What holds of every history of a desk.
-ghost use Rattle.std.specs.Prelude.{◌≡◌, ℕ, List, ◌++◌};
+ghost use Rattle.std.specs.Prelude.{◌≡◌, ℕ, List, [], ◌++◌};
 ghost use Rattle.turn_hall.specs.declared.entry.Entry.{Entry};
-ghost use Rattle.turn_hall.specs.Replay.{replay, IsLegal};
+ghost use Rattle.turn_hall.specs.Replay.{replay, IsLegal, entries_of, EndsWith};
+ghost use Rattle.turn_hall.specs.Seen.{own_part};
 
 use crate::Desk;
 
@@ -15,4 +16,11 @@ pub fn histories_are_joined<D: Desk>()
 /// A history leaves the opening state, since each step does.
 pub fn what_each_step_keeps_stays<D: Desk>()
     ensures { (s : D.State) (xs : List (Entry D.Note D.Reply)) → D.opening (replay D.step s xs) ≡ D.opening s }
+{}
+
+/// The own part of a history is its front up to the last entry of a number: it is empty or ends with one, and none comes after it.
+pub fn the_own_part_ends_with_the_last_own_entry<D: Desk>()
+    ensures ends { (who : ℕ) (xs : List (Entry D.Note D.Reply)) → EndsWith who (own_part who xs) }
+    ensures rest { (who : ℕ) (xs : List (Entry D.Note D.Reply)) → (rest : List (Entry D.Note D.Reply)) × (xs ≡ own_part who xs ++ rest)
+        × (entries_of who rest ≡ []) }
 {}
