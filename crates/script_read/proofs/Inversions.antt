@@ -11,7 +11,7 @@ use Rattle.script_read.specs.declared.fault.LineWhy.{LineWhy}
 use Rattle.script_read.specs.declared.fault.LineWhy.TheVariants as why
 use Rattle.script_read.specs.Script.{at_line}
 use Rattle.script_read.specs.Faults.{◌>>=◌}
-use Rattle.script_read.specs.Words.{same, words_of, word_count, word_at, is_name, name}
+use Rattle.script_read.specs.Words.{same, words_of, word_count, word_at, is_name, name, is_file_name, file_name}
 
 -- a fault is no answer
 pub err_ok : {A E : Type 0} (w : E) (t : A) → Err w ≡ Ok t → ⊥
@@ -54,6 +54,15 @@ name_by false word x e h = absurd (err_ok why.Name x h)
 pub named : (word x : List ℕ) → name word ≡ Ok x → (word ≡ x) × IsTrue (is_name x)
 unfolding name
 named word x h = name_by (is_name word) word x refl h
+
+file_by : (b : Bool) (word x : List ℕ) → is_file_name word ≡ b → (if b then Ok word else Err why.Name) ≡ Ok x → (word ≡ x) × IsTrue (is_file_name x)
+file_by true word x e h = carried (λ y. (word ≡ y) × IsTrue (is_file_name y)) word x h (refl, e)
+file_by false word x e h = absurd (err_ok why.Name x h)
+
+-- a word that is read as a file name is that file name
+pub file_named : (word x : List ℕ) → file_name word ≡ Ok x → (word ≡ x) × IsTrue (is_file_name x)
+unfolding file_name
+file_named word x h = file_by (is_file_name word) word x refl h
 
 -- a test that did not fail
 pub not_not : (b : Bool) → not b ≡ false → b ≡ true

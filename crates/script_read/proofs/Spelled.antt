@@ -1,5 +1,5 @@
 -- The lines of a script that is read are those that its parts spell.
-use Rattle.std.proofs.Common.{◌≡◌, ◌∙◌, sym, refl, ap, ℕ, ℤ, ◌+◌, List, [], ◌∷◌, ◌++◌, map, length, Bool, true, false, if◌then◌else◌, Result, Ok, Err}
+use Rattle.std.proofs.Common.{◌≡◌, ◌∙◌, sym, refl, ap, ℕ, ℤ, ◌+◌, List, [], ◌∷◌, ◌++◌, map, length, Bool, true, false, if◌then◌else◌, None, Result, Ok, Err}
 use Rattle.std.specs.Prelude.{◌≢◌, ◌==◌, not, nat_le, IfOk, codes, ⊤}
 use Rattle.std.specs.List.{flat_map}
 use Rattle.std.specs.Str.{is_utf8}
@@ -13,16 +13,16 @@ use Rattle.script_read.specs.declared.reading.Reading.{Reading}
 use Rattle.script_read.specs.declared.script.Block.{Block}
 use Rattle.script_read.specs.declared.script.Command.{Command}
 use Rattle.script_read.specs.declared.script.Script.{Script}
-use Rattle.script_read.specs.declared.script.SourceForm.TheVariants.{Inline}
+use Rattle.script_read.specs.declared.script.SourceForm.TheVariants.{Inline, Files}
 use Rattle.script_read.specs.declared.script.SourceText.{SourceText}
 use Rattle.script_read.specs.Commands.{command_of}
 use Rattle.script_read.specs.Later.{comes_later}
 use Rattle.script_read.specs.Lines.{lines_of, cleaned, is_passed, line_step}
-use Rattle.script_read.specs.Meaning.{lines_at, HasEdges, after, vertex_text, edge_text, actor_text, record_lines, source_lines, phase_lines, script_lines, kept_lines}
-use Rattle.script_read.specs.Places.{has_source, source_line, vertex_line, edge_line, end_line, phase_line, actor_line, command_line, built_line, line_in}
+use Rattle.script_read.specs.Meaning.{lines_at, HasEdges, after, vertex_text, edge_text, actor_text, record_lines, files_text, source_lines, phase_lines, script_lines, kept_lines}
+use Rattle.script_read.specs.Places.{new_source, inline_line, files_line, source_line, vertex_line, edge_line, end_line, phase_line, actor_line, command_line, built_line, line_in}
 use Rattle.script_read.specs.Script.{opening, phases_at, ended, lines_read, script_of, ReadsScript}
-use Rattle.script_read.specs.Words.{same, word_at, word_count, name, key, alone, one_name}
-use Rattle.script_read.proofs.Inversions.{err_ok, not_not, carried, passed, either, first, named, both, two_spelled, three_spelled, four_spelled, same_is, at_line_ok}
+use Rattle.script_read.specs.Words.{same, word_at, word_count, name, file_name, key, alone, one_name}
+use Rattle.script_read.proofs.Inversions.{err_ok, not_not, carried, passed, either, first, named, file_named, both, two_spelled, three_spelled, four_spelled, same_is, at_line_ok}
 use Rattle.script_read.proofs.Forms.{command_line_is}
 use Rattle.script_read.proofs.Numbers.{key_spelled}
 use Rattle.script_read.proofs.Shapes.{Begins, behind, alone_is, one_name_is}
@@ -34,6 +34,15 @@ source_text_is : (line source : List ℕ) → Begins line (codes "source") → (
     → line ≡ codes "source " ++ (source ++ codes " inline")
 source_text_is line source w n f s =
     behind line (codes "source") _ w (three_spelled line n) ∙ (rw (same_is (word_at line 2) (codes "inline") f, s) refl)
+
+files_text_by : (x y source link config : List ℕ) → x ≡ source → link ≡ codes "config" → y ≡ config
+    → codes "source" ++ (32 ∷ (x ++ (32 ∷ (link ++ (32 ∷ y))))) ≡ files_text source config None
+files_text_by x y source link config p q r = rw (p, q, r, append-nil config) refl
+
+files_text_is : (line source config : List ℕ) → Begins line (codes "source") → (word_count line == 4) ≡ true → same (word_at line 2) (codes "config") ≡ true
+    → word_at line 1 ≡ source → word_at line 3 ≡ config → line ≡ files_text source config None
+files_text_is line source config w n f s c =
+    behind line (codes "source") _ w (four_spelled line n) ∙ files_text_by (word_at line 1) (word_at line 3) source (word_at line 2) config s (same_is (word_at line 2) (codes "config") f) c
 
 vertex_text_is : (line : List ℕ) (k : ℤ) → Begins line (codes "v") → not (word_count line == 2) ≡ false → key (word_at line 1) ≡ Ok k → line ≡ vertex_text k
 vertex_text_is line k w n h =
@@ -67,18 +76,52 @@ record Telling (s : Reading) (told : List (List ℕ)) : Type 0 where
 more : (a x told : List (List ℕ)) (l m : List ℕ) → a ++ x ≡ told → m ≡ l → a ++ (x ++ l ∷ []) ≡ told ++ m ∷ []
 more a x told l m h e = rw e (sym (append_assoc a x (l ∷ [])) ∙ ap (λ (z : List (List ℕ)). z ++ l ∷ []) h)
 
-tells_source : (s t : Reading) (line : List ℕ) (told : List (List ℕ)) → lines_at place.Start s ≡ told → ClearAt place.Start s
-    → Begins line (codes "source") → source_line s line ≡ Ok t → Telling t (told ++ line ∷ [])
-unfolding source_line
-tells_source s t line told h clear w e =
+told_same : (p q : Place) (s : Reading) (told : List (List ℕ)) → p ≡ q → lines_at q s ≡ told → lines_at p s ≡ told
+told_same p q s told e h = rw e h
+
+clear_same : (p q : Place) (s : Reading) → p ≡ q → ClearAt q s → ClearAt p s
+clear_same p q s e h = rw e h
+
+tells_by : (p : Place) (s : Reading) (told : List (List ℕ)) → s.place ≡ p → lines_at p s ≡ told → ClearAt p s → Telling s told
+tells_by p s told at h clear = record { tells = told_same s.place p s told at h; clear = clear_same s.place p s at clear }
+
+tells_inline : (s t : Reading) (line : List ℕ) (told : List (List ℕ)) → lines_at place.Start s ≡ told → ClearAt place.Start s
+    → Begins line (codes "source") → inline_line s line ≡ Ok t → Telling t (told ++ line ∷ [])
+unfolding inline_line
+tells_inline s t line told h clear w e =
     let a = passed _ why.Form _ t e in
     let f = both _ _ a.0 in
     let b = first (name (word_at line 1)) _ t a.1 in
     let n = named _ _ b.1 in
-    let c = passed (has_source s.sources b.0) why.Twice _ t b.2 in
-    let d = passed (nat_le 64 (length s.sources)) why.Many _ t c.1 in
-    carried (λ (x : Reading). Telling x (told ++ line ∷ [])) (record s { place = place.Vertices; source = record { name = b.0; vertices = []; edges = [] } }) t d.1
+    let c = first (new_source s.sources b.0) _ t b.2 in
+    carried (λ (x : Reading). Telling x (told ++ line ∷ [])) (record s { place = place.Vertices; source = record { name = b.0; vertices = []; edges = [] } }) t c.2
     (record { tells = rw (h, ← source_text_is line b.0 w f.0 f.1 n.0) refl; clear = (clear, refl) })
+
+told_files : (sources : List SourceText) (n config : List ℕ) (told : List (List ℕ)) (line : List ℕ)
+    → flat_map source_lines sources ≡ told → line ≡ files_text n config None → flat_map source_lines (sources ++ record { name = n; form = Files config None } ∷ []) ≡ told ++ line ∷ []
+told_files sources n config told line h e =
+    rw (e, ← h) (flat_map-append source_lines sources (record { name = n; form = Files config None } ∷ []))
+
+tells_files : (s t : Reading) (line : List ℕ) (told : List (List ℕ)) → s.place ≡ place.Start → lines_at place.Start s ≡ told → ClearAt place.Start s
+    → Begins line (codes "source") → files_line s line ≡ Ok t → Telling t (told ++ line ∷ [])
+unfolding files_line
+tells_files s t line told at h clear w e =
+    let a = passed _ why.Form _ t e in
+    let f = both _ _ a.0 in
+    let b = first (name (word_at line 1)) _ t a.1 in
+    let n = named _ _ b.1 in
+    let c = first (file_name (word_at line 3)) _ t b.2 in
+    let m = file_named _ _ c.1 in
+    let d = first (new_source s.sources b.0) _ t c.2 in
+    let new : Reading = record s { sources = s.sources ++ record { name = b.0; form = Files c.0 None } ∷ [] } in
+    carried (λ (x : Reading). Telling x (told ++ line ∷ [])) new t d.2
+    (tells_by place.Start new _ at (told_files s.sources b.0 c.0 told line h (files_text_is line b.0 c.0 w f.0 f.1 n.0 m.0)) clear)
+
+tells_source : (s t : Reading) (line : List ℕ) (told : List (List ℕ)) → s.place ≡ place.Start → lines_at place.Start s ≡ told → ClearAt place.Start s
+    → Begins line (codes "source") → source_line s line ≡ Ok t → Telling t (told ++ line ∷ [])
+unfolding source_line
+tells_source s t line told at h clear w e =
+    either (same (word_at line 2) (codes "config")) _ _ t _ (λ f g. tells_files s t line told at h clear w g) (tells_inline s t line told h clear w) e
 
 opened_vertex : (n : List ℕ) (vs : List ℤ) (k : ℤ) → record_lines n (vs ++ k ∷ []) [] ≡ record_lines n vs [] ++ vertex_text k ∷ []
 opened_vertex n vs k =
@@ -94,15 +137,6 @@ told_vertex : (a : List (List ℕ)) (n : List ℕ) (vs : List ℤ) (es : List (�
     → es ≡ [] → a ++ record_lines n vs es ≡ told → line ≡ vertex_text k → a ++ record_lines n (vs ++ k ∷ []) es ≡ told ++ line ∷ []
 told_vertex a n vs es k told line none h e =
     rw (none, opened_vertex n vs k) (more a (record_lines n vs []) told (vertex_text k) line (rw none at h) e)
-
-told_same : (p q : Place) (s : Reading) (told : List (List ℕ)) → p ≡ q → lines_at q s ≡ told → lines_at p s ≡ told
-told_same p q s told e h = rw e h
-
-clear_same : (p q : Place) (s : Reading) → p ≡ q → ClearAt q s → ClearAt p s
-clear_same p q s e h = rw e h
-
-tells_by : (p : Place) (s : Reading) (told : List (List ℕ)) → s.place ≡ p → lines_at p s ≡ told → ClearAt p s → Telling s told
-tells_by p s told at h clear = record { tells = told_same s.place p s told at h; clear = clear_same s.place p s at clear }
 
 tells_vertex : (s t : Reading) (line : List ℕ) (told : List (List ℕ)) → s.place ≡ place.Vertices → lines_at place.Vertices s ≡ told → ClearAt place.Vertices s
     → Begins line (codes "v") → vertex_line s line ≡ Ok t → Telling t (told ++ line ∷ [])
@@ -206,7 +240,7 @@ tells_built : (p : Place) (s t : Reading) (line : List ℕ) (told : List (List �
     → built_line p s line ≡ Ok t → Telling t (told ++ line ∷ [])
 unfolding built_line
 tells_built place.Start s t line told at here h clear e =
-    either (same (word_at line 0) (codes "source")) _ _ t _ (λ w g. tells_source s t line told h clear w g)
+    either (same (word_at line 0) (codes "source")) _ _ t _ (λ w g. tells_source s t line told at h clear w g)
     (either (same (word_at line 0) (codes "phase")) _ _ t _ (λ w g. tells_phase s t line told h clear w g) (no_word s t _)) e
 tells_built place.Vertices s t line told at here h clear e =
     either (same (word_at line 0) (codes "v")) _ _ t _ (λ w g. tells_vertex s t line told at h clear w g)

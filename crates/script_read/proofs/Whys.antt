@@ -12,11 +12,12 @@ use Rattle.script_read.specs.declared.reading.Place.TheVariants as place
 use Rattle.script_read.specs.declared.reading.Reading.{Reading}
 use Rattle.script_read.specs.Commands.{open_of, close_of, columns_of, load_of, clone_of, release_of, show_of, rows_of, graph_form_of, form_of, command_of}
 use Rattle.script_read.specs.Faults.{◌>>=◌}
-use Rattle.script_read.specs.Grammar.{Due, text, a_name, a_key, Row, rows_in, words_why, row_why, limit_why, first_why}
+use Rattle.script_read.specs.Grammar.{Due, text, a_name, a_file, a_key, fits, Row, source_forms, rows_in, words_why, row_why, limit_why, first_why}
 use Rattle.script_read.specs.Later.{comes_later}
 use Rattle.script_read.specs.Lines.{is_passed, line_step}
-use Rattle.script_read.specs.Places.{has_source, source_line, vertex_line, edge_line, end_line, phase_line, actor_line, command_line, built_line, line_in}
-use Rattle.script_read.specs.Words.{same, words_of, word_count, word_at, is_name, name, key_number, or_number, key, alone, one_name, two_names}
+use Rattle.script_read.specs.Places.{has_source, new_source, inline_line, files_line, source_line, vertex_line, edge_line, end_line, phase_line, actor_line, command_line, built_line, line_in}
+use Rattle.script_read.proofs.Inversions.{same_is}
+use Rattle.script_read.specs.Words.{same, words_of, word_count, word_at, is_name, name, is_file_name, file_name, key_number, or_number, key, alone, one_name, two_names}
 
 -- ---- steps
 
@@ -39,6 +40,12 @@ then_name : {B : Type 0} (word : List ℕ) (f : List ℕ → Result B LineWhy) (
 unfolding name
 then_name word f o h = then_name_by (is_name word) word f o h
 
+-- the same of a word that is due as a file name
+then_file : {B : Type 0} (word : List ℕ) (f : List ℕ → Result B LineWhy) (o : Option LineWhy) → result_err (f word) ≡ o
+    → result_err (file_name word >>= f) ≡ (if is_file_name word then o else Some why.Name)
+unfolding file_name
+then_file word f o h = then_name_by (is_file_name word) word f o h
+
 then_key_by : {B : Type 0} (k : Option ℤ) (f : ℤ → Result B LineWhy) (o : Option LineWhy) → ((z : ℤ) → result_err (f z) ≡ o)
     → result_err (or_number k >>= f) ≡ (if is_some k then o else Some why.Number)
 then_key_by (Some z) f o h = h z
@@ -59,18 +66,23 @@ or_behind : (b : Bool) (w : LineWhy) (o : Option LineWhy) → option_or (if b th
 or_behind true w o = refl
 or_behind false w o = refl
 
+or_either : (b : Bool) (p : Option LineWhy) (w : LineWhy) (o : Option LineWhy)
+    → option_or (if b then p else Some w) o ≡ (if b then option_or p o else Some w)
+or_either true p w o = refl
+or_either false p w o = refl
+
 either_why : (b : Bool) (word : List ℕ) → result_err (if b then Ok word else Err why.Name) ≡ (if b then None else Some why.Name)
 either_why true word = refl
 either_why false word = refl
 
 -- ---- the words of a line
 
-none_behind : (words : List (List ℕ)) → result_err (if not (length words == 1) then Err why.Form else Ok (tt {0})) ≡ words_why [] words
+none_behind : (words : List (List ℕ)) → result_err (if not (length words == 1) then Err why.Form else Ok (tt {0})) ≡ words_why ([] ∷ []) words
 none_behind [] = refl
 none_behind (a ∷ []) = refl
 none_behind (a ∷ b ∷ words) = rw (ne_eqb (length (a ∷ b ∷ words)) 1 (omega arith)) refl
 
-name_behind : (words : List (List ℕ)) → result_err (if not (length words == 2) then Err why.Form else name (at words 1)) ≡ words_why (a_name ∷ []) words
+name_behind : (words : List (List ℕ)) → result_err (if not (length words == 2) then Err why.Form else name (at words 1)) ≡ words_why ((a_name ∷ []) ∷ []) words
 unfolding name
 name_behind [] = refl
 name_behind (a ∷ []) = refl
@@ -78,7 +90,7 @@ name_behind (a ∷ b ∷ []) = either_why (is_name b) b
 name_behind (a ∷ b ∷ c ∷ words) = rw (ne_eqb (length (a ∷ b ∷ c ∷ words)) 2 (omega arith)) refl
 
 key_behind : {B : Type 0} (words : List (List ℕ)) (f : ℤ → B)
-    → result_err (if not (length words == 2) then Err why.Form else (key (at words 1) >>= (λ x. Ok (f x)))) ≡ words_why (a_key ∷ []) words
+    → result_err (if not (length words == 2) then Err why.Form else (key (at words 1) >>= (λ x. Ok (f x)))) ≡ words_why ((a_key ∷ []) ∷ []) words
 key_behind [] f = refl
 key_behind (a ∷ []) f = refl
 key_behind (a ∷ b ∷ []) f = then_key b _ None (λ z. refl)
@@ -86,7 +98,7 @@ key_behind (a ∷ b ∷ c ∷ words) f = rw (ne_eqb (length (a ∷ b ∷ c ∷ w
 
 keys_behind : {B : Type 0} (words : List (List ℕ)) (f : ℤ → ℤ → ℤ → B)
     → result_err (if not (length words == 4) then Err why.Form else (key (at words 1) >>= (λ x. key (at words 2) >>= (λ y. key (at words 3) >>= (λ z. Ok (f x y z))))))
-    ≡ words_why (a_key ∷ a_key ∷ a_key ∷ []) words
+    ≡ words_why ((a_key ∷ a_key ∷ a_key ∷ []) ∷ []) words
 keys_behind [] f = refl
 keys_behind (a ∷ []) f = refl
 keys_behind (a ∷ b ∷ []) f = refl
@@ -102,7 +114,7 @@ two_by false u v = refl
 
 two_names_behind : (words : List (List ℕ)) (link : List ℕ)
     → result_err {T = List ℕ × List ℕ} (if not ((length words == 4) && same (at words 2) link) then Err why.Form else (name (at words 1) >>= (λ x. name (at words 3) >>= (λ y. Ok (x, y)))))
-    ≡ words_why (a_name ∷ text link ∷ a_name ∷ []) words
+    ≡ words_why ((a_name ∷ text link ∷ a_name ∷ []) ∷ []) words
 two_names_behind [] link = refl
 two_names_behind (a ∷ []) link = refl
 two_names_behind (a ∷ b ∷ []) link = refl
@@ -118,18 +130,74 @@ tested_by false u f o h = refl
 
 tested_behind : {B : Type 0} (words : List (List ℕ)) (word : List ℕ) (f : List ℕ → Result B LineWhy) (o : Option LineWhy) → result_err (f (at words 1)) ≡ o
     → result_err (if not ((length words == 3) && same (at words 2) word) then Err why.Form else (name (at words 1) >>= f))
-    ≡ option_or (words_why (a_name ∷ text word ∷ []) words) o
+    ≡ option_or (words_why ((a_name ∷ text word ∷ []) ∷ []) words) o
 tested_behind [] word f o h = refl
 tested_behind (a ∷ []) word f o h = refl
 tested_behind (a ∷ b ∷ []) word f o h = refl
 tested_behind (a ∷ b ∷ c ∷ []) word f o h = tested_by (same c word) b f o h
 tested_behind (a ∷ b ∷ c ∷ d ∷ words) word f o h = rw (ne_eqb (length (a ∷ b ∷ c ∷ d ∷ words)) 3 (omega arith)) refl
 
+-- the same with a file name behind the text
+filed_by : {B : Type 0} (b : Bool) (u v : List ℕ) (f : List ℕ → List ℕ → Result B LineWhy) (o : Option LineWhy) → result_err (f u v) ≡ o
+    → result_err (if not b then Err why.Form else (name u >>= (λ x. file_name v >>= f x)))
+    ≡ option_or (if b then (if is_name u then (if is_file_name v then None else Some why.Name) else Some why.Name) else Some why.Form) o
+filed_by true u v f o h =
+    then_name u _ _ (then_file v _ o h ∙ sym (or_behind (is_file_name v) why.Name o))
+    ∙ sym (or_either (is_name u) (if is_file_name v then None else Some why.Name) why.Name o)
+filed_by false u v f o h = refl
+
+filed_behind : {B : Type 0} (words : List (List ℕ)) (word : List ℕ) (f : List ℕ → List ℕ → Result B LineWhy) (o : Option LineWhy) → result_err (f (at words 1) (at words 3)) ≡ o
+    → result_err (if not ((length words == 4) && same (at words 2) word) then Err why.Form else (name (at words 1) >>= (λ x. file_name (at words 3) >>= f x)))
+    ≡ option_or (words_why ((a_name ∷ text word ∷ a_file ∷ []) ∷ []) words) o
+filed_behind [] word f o h = refl
+filed_behind (a ∷ []) word f o h = refl
+filed_behind (a ∷ b ∷ []) word f o h = refl
+filed_behind (a ∷ b ∷ c ∷ []) word f o h = refl
+filed_behind (a ∷ b ∷ c ∷ d ∷ []) word f o h = filed_by (same c word) b d f o h
+filed_behind (a ∷ b ∷ c ∷ d ∷ e ∷ words) word f o h = rw (ne_eqb (length (a ∷ b ∷ c ∷ d ∷ e ∷ words)) 4 (omega arith)) refl
+
+-- ---- the forms of a source
+
+abbrev inline_form : List Due
+inline_form = a_name ∷ text (codes "inline") ∷ []
+
+abbrev files_form : List Due
+files_form = a_name ∷ text (codes "config") ∷ a_file ∷ []
+
+and_false : (a b : Bool) → b ≡ false → a && b ≡ false
+and_false true b h = h
+and_false false b h = refl
+
+-- the two texts differ
+not_both : (word : List ℕ) → same word (codes "config") ≡ true → same word (codes "inline") ≡ false
+not_both word h = rw (same_is word (codes "config") h) refl
+
+-- words whose third is `config` have no inline form
+no_inline : (words : List (List ℕ)) → same (at words 2) (codes "config") ≡ true → words_why source_forms words ≡ words_why (files_form ∷ []) words
+no_inline [] h = refl
+no_inline (a ∷ []) h = refl
+no_inline (a ∷ b ∷ []) h = refl
+no_inline (a ∷ b ∷ c ∷ words) h = rw (and_false (fits [] words) (same c (codes "inline")) (not_both c h)) refl
+
+-- words whose third is not `config` have no form with files
+no_files : (words : List (List ℕ)) → same (at words 2) (codes "config") ≡ false → words_why source_forms words ≡ words_why (inline_form ∷ []) words
+no_files [] h = refl
+no_files (a ∷ []) h = refl
+no_files (a ∷ b ∷ []) h = refl
+no_files (a ∷ b ∷ c ∷ words) h = rw (and_false (fits (a_file ∷ []) words) (same c (codes "config")) h) refl
+
+-- the step by the third word finds what the two forms of a source find
+by_third : {A : Type 0} (words : List (List ℕ)) (b : Bool) (x y : Result A LineWhy) (o : Option LineWhy) → same (at words 2) (codes "config") ≡ b
+    → result_err x ≡ option_or (words_why (files_form ∷ []) words) o → result_err y ≡ option_or (words_why (inline_form ∷ []) words) o
+    → result_err (if b then x else y) ≡ option_or (words_why source_forms words) o
+by_third words true x y o h e f = e ∙ ap (λ (w : Option LineWhy). option_or w o) (sym (no_inline words h))
+by_third words false x y o h e f = f ∙ ap (λ (w : Option LineWhy). option_or w o) (sym (no_files words h))
+
 -- ---- lines
 
--- the why of a step at a line is that of this row
+-- the why of a step at a line is that of a line of this one form
 abbrev Why : {A : Type 0} → Result A LineWhy → List Due → List ℕ → Type 0
-Why r dues line = result_err r ≡ words_why dues (words_of line)
+Why r dues line = result_err r ≡ words_why (dues ∷ []) (words_of line)
 
 alone_why : (line : List ℕ) → Why (alone line) [] line
 unfolding alone word_count
@@ -212,18 +280,29 @@ command_why s line =
     full_by (form_of line >>= (λ f. Ok (record { line = line; form = f }))) (nat_le 65536 (length s.commands)) _
     ∙ ap (λ (o : Option LineWhy). option_or o (limit_why place.Actor s line)) (then_fine (form_of line) _ ∙ form_why line)
 
+-- one more source, and a step behind it that finds no fault
 source_test : {B : Type 0} (standing full : Bool) (x : B)
-    → result_err (if standing then Err why.Twice else (if full then Err why.Many else Ok x)) ≡ (if standing then Some why.Twice else (if full then Some why.Many else None))
+    → result_err ((if standing then Err why.Twice else (if full then Err why.Many else Ok (tt {0}))) >>= (λ _. Ok x))
+    ≡ (if standing then Some why.Twice else (if full then Some why.Many else None))
 source_test true full x = refl
 source_test false true x = refl
 source_test false false x = refl
 
-source_why : (s : Reading) (line : List ℕ)
-    → result_err (source_line s line)
-    ≡ option_or (words_why (a_name ∷ text (codes "inline") ∷ []) (words_of line))
-    (if has_source s.sources (word_at line 1) then Some why.Twice else (if nat_le 64 (length s.sources) then Some why.Many else None))
-unfolding source_line word_count word_at
-source_why s line = tested_behind (words_of line) (codes "inline") _ _ (source_test _ _ _)
+-- what a source's name finds behind its words
+abbrev name_why : Reading → List ℕ → Option LineWhy
+name_why s line = if has_source s.sources (word_at line 1) then Some why.Twice else (if nat_le 64 (length s.sources) then Some why.Many else None)
+
+inline_why : (s : Reading) (line : List ℕ) → result_err (inline_line s line) ≡ option_or (words_why (inline_form ∷ []) (words_of line)) (name_why s line)
+unfolding inline_line new_source word_count word_at
+inline_why s line = tested_behind (words_of line) (codes "inline") _ _ (source_test _ _ _)
+
+files_why : (s : Reading) (line : List ℕ) → result_err (files_line s line) ≡ option_or (words_why (files_form ∷ []) (words_of line)) (name_why s line)
+unfolding files_line new_source word_count word_at
+files_why s line = filed_behind (words_of line) (codes "config") _ _ (source_test _ _ _)
+
+source_why : (s : Reading) (line : List ℕ) → result_err (source_line s line) ≡ option_or (words_why source_forms (words_of line)) (name_why s line)
+unfolding source_line word_at
+source_why s line = by_third (words_of line) (same (word_at line 2) (codes "config")) _ _ _ refl (files_why s line) (inline_why s line)
 
 phase_why : (s : Reading) (line : List ℕ) → Why (phase_line s line) [] line
 unfolding phase_line

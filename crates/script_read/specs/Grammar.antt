@@ -10,33 +10,42 @@ use Rattle.script_read.specs.declared.reading.Reading.{Reading}
 use Rattle.script_read.specs.Later.{comes_later}
 use Rattle.script_read.specs.Lines.{is_passed}
 use Rattle.script_read.specs.Places.{has_source}
-use Rattle.script_read.specs.Words.{same, words_of, word_at, is_name, key_number}
+use Rattle.script_read.specs.Words.{same, words_of, word_at, is_name, is_file_name, key_number}
 
--- what is due at a word: this text, a name or a key
+-- what is due at a word: this text, a name, a file name or a key
 pub data Due : Type 0 where
   text : List ℕ → Due
   a_name : Due
+  a_file : Due
   a_key : Due
 
--- a line: its first word, and what is due behind it
+-- a line: its first word, and the forms that the words behind it may have, each what is due at these words
 abbrev pub Row : Type 0
-Row = List ℕ × List Due
+Row = List ℕ × List (List Due)
+
+-- a line of one form
+abbrev pub one_form : List ℕ → List Due → Row
+one_form word dues = (word, dues ∷ [])
+
+-- the forms of a source: `S inline`, `S config FILE`
+abbrev pub source_forms : List (List Due)
+source_forms = (a_name ∷ text (codes "inline") ∷ []) ∷ (a_name ∷ text (codes "config") ∷ a_file ∷ []) ∷ []
 
 -- the lines that are built, by the place where they are allowed
 abbrev pub rows_in : Place → List Row
-rows_in place.Start = (codes "source", a_name ∷ text (codes "inline") ∷ []) ∷ (codes "phase", []) ∷ []
-rows_in place.Vertices = (codes "v", a_key ∷ []) ∷ (codes "e", a_key ∷ a_key ∷ a_key ∷ []) ∷ (codes "end", []) ∷ []
-rows_in place.Edges = (codes "e", a_key ∷ a_key ∷ a_key ∷ []) ∷ (codes "end", []) ∷ []
-rows_in place.Phase = (codes "actor", a_name ∷ []) ∷ []
+rows_in place.Start = (codes "source", source_forms) ∷ one_form (codes "phase") [] ∷ []
+rows_in place.Vertices = one_form (codes "v") (a_key ∷ []) ∷ one_form (codes "e") (a_key ∷ a_key ∷ a_key ∷ []) ∷ one_form (codes "end") [] ∷ []
+rows_in place.Edges = one_form (codes "e") (a_key ∷ a_key ∷ a_key ∷ []) ∷ one_form (codes "end") [] ∷ []
+rows_in place.Phase = one_form (codes "actor") (a_name ∷ []) ∷ []
 rows_in place.Actor =
-    (codes "open", [])
-    ∷ (codes "close", [])
-    ∷ (codes "columns", [])
-    ∷ (codes "load", a_name ∷ text (codes "from") ∷ a_name ∷ [])
-    ∷ (codes "clone", a_name ∷ text (codes "from") ∷ a_name ∷ [])
-    ∷ (codes "release", a_name ∷ [])
-    ∷ (codes "show", a_name ∷ [])
-    ∷ (codes "rows", a_name ∷ [])
+    one_form (codes "open") []
+    ∷ one_form (codes "close") []
+    ∷ one_form (codes "columns") []
+    ∷ one_form (codes "load") (a_name ∷ text (codes "from") ∷ a_name ∷ [])
+    ∷ one_form (codes "clone") (a_name ∷ text (codes "from") ∷ a_name ∷ [])
+    ∷ one_form (codes "release") (a_name ∷ [])
+    ∷ one_form (codes "show") (a_name ∷ [])
+    ∷ one_form (codes "rows") (a_name ∷ [])
     ∷ []
 
 -- whether so many words stand, with the texts that are due
@@ -44,20 +53,28 @@ abbrev pub fits : List Due → List (List ℕ) → Bool
 fits [] [] = true
 fits (text t ∷ dues) (word ∷ words) = fits dues words && same word t
 fits (a_name ∷ dues) (word ∷ words) = fits dues words
+fits (a_file ∷ dues) (word ∷ words) = fits dues words
 fits (a_key ∷ dues) (word ∷ words) = fits dues words
 fits dues words = false
 
--- the why of the leftmost word that is not the name or number that is due
+-- the why of the leftmost word that is not the name, file name or number that is due
 abbrev pub wrong_word : List Due → List (List ℕ) → Option LineWhy
 wrong_word (text t ∷ dues) (word ∷ words) = wrong_word dues words
 wrong_word (a_name ∷ dues) (word ∷ words) = if is_name word then wrong_word dues words else Some why.Name
+wrong_word (a_file ∷ dues) (word ∷ words) = if is_file_name word then wrong_word dues words else Some why.Name
 wrong_word (a_key ∷ dues) (word ∷ words) = if is_some (key_number word) then wrong_word dues words else Some why.Number
 wrong_word dues words = None
 
--- the why of a line's words, where this is due behind the first
-abbrev pub words_why : List Due → List (List ℕ) → Option LineWhy
-words_why dues [] = Some why.Form
-words_why dues (word ∷ words) = if fits dues words then wrong_word dues words else Some why.Form
+-- the why of the words behind the first, where they may have these forms: `form` where they have none of them, else that of
+-- the form that they have
+abbrev pub forms_why : List (List Due) → List (List ℕ) → Option LineWhy
+forms_why [] words = Some why.Form
+forms_why (dues ∷ forms) words = if fits dues words then wrong_word dues words else forms_why forms words
+
+-- the why of a line's words, where the words behind the first may have these forms
+abbrev pub words_why : List (List Due) → List (List ℕ) → Option LineWhy
+words_why forms [] = Some why.Form
+words_why forms (word ∷ words) = forms_why forms words
 
 -- the why of a line's words, where the line is this row, or no row begins with its first word
 abbrev pub row_why : List (List ℕ) → Option Row → Option LineWhy

@@ -1,5 +1,5 @@
 -- What a script that is read has, and what its first fault is.
-use Rattle.std.specs.Prelude.{◌≡◌, ◌≢◌, ◌≤◌, ◌-◌, ◌++◌, ℕ, ℤ, IsTrue, map, unwrap_or, slice_get, if◌then◌else◌, All, AllPairs, List, [], ◌∷◌, length, take, drop, codes, Some, Result, Ok, ⊤}
+use Rattle.std.specs.Prelude.{◌≡◌, ◌≢◌, ◌≤◌, ◌-◌, ◌++◌, ℕ, ℤ, IsTrue, map, unwrap_or, slice_get, if◌then◌else◌, All, AllPairs, List, [], ◌∷◌, length, take, drop, codes, Option, Some, None, Result, Ok, ⊤}
 use Rattle.std.specs.List.{flat_map}
 use Rattle.std.specs.Fmt.{signed_decimal}
 use Rattle.script_read.specs.declared.fault.LineWhy.{LineWhy}
@@ -15,13 +15,13 @@ use Rattle.script_read.specs.declared.script.Form.{Form}
 use Rattle.script_read.specs.declared.script.Form.TheVariants as form
 use Rattle.script_read.specs.declared.script.Script.{Script}
 use Rattle.script_read.specs.declared.script.SourceForm.{SourceForm}
-use Rattle.script_read.specs.declared.script.SourceForm.TheVariants.{Inline}
+use Rattle.script_read.specs.declared.script.SourceForm.TheVariants.{Inline, Files}
 use Rattle.script_read.specs.declared.script.SourceText.{SourceText}
 use Rattle.script_read.specs.Faults.{◌>>=◌}
 use Rattle.script_read.specs.Lines.{cleaned, is_passed, line_step}
 use Rattle.script_read.specs.Grammar.{first_why}
 use Rattle.script_read.specs.Script.{opening}
-use Rattle.script_read.specs.Words.{is_name}
+use Rattle.script_read.specs.Words.{is_name, is_file_name}
 
 -- the line that a form spells
 abbrev pub spelled : Form → List ℕ
@@ -36,6 +36,9 @@ spelled (form.Rows graph) = codes "rows " ++ graph
 
 abbrev pub IsName : List ℕ → Type 0
 IsName word = IsTrue (is_name word)
+
+abbrev pub IsFileName : List ℕ → Type 0
+IsFileName word = IsTrue (is_file_name word)
 
 -- the words of a form that are due as names are names
 abbrev pub HasNames : Form → Type 0
@@ -66,10 +69,16 @@ HasPhases [] ([] ∷ []) = ⊤
 HasPhases (actor ∷ []) ((block ∷ []) ∷ []) = IsName actor × IsBlock block
 HasPhases actors phases = ⊥
 
+-- the file name of a configuration is a file name, and there is no file of changes
+abbrev pub HasFiles : SourceForm → Type 0
+HasFiles (Inline vertices edges) = ⊤
+HasFiles (Files config changes) = IsFileName config × (changes ≡ None)
+
 -- a script with at most 64 sources of different names, one phase and one actor
 pub record IsScript (script : Script) : Type 0 where
   pub few : length script.sources ≤ 64
   pub names : All (λ source. IsName source.name) script.sources
+  pub files : All (λ source. HasFiles source.form) script.sources
   pub distinct : AllPairs (λ s t. s.name ≢ t.name) script.sources
   pub phases : HasPhases script.actors script.phases
 
@@ -87,9 +96,19 @@ actor_text actor = codes "actor " ++ actor
 abbrev pub record_lines : List ℕ → List ℤ → List (ℤ × ℤ × ℤ) → List (List ℕ)
 record_lines source vertices edges = (codes "source " ++ (source ++ codes " inline")) ∷ (map vertex_text vertices ++ map edge_text edges)
 
+-- the words behind a configuration's file name: the file of changes, where there is one
+abbrev pub changes_text : Option (List ℕ) → List ℕ
+changes_text None = []
+changes_text (Some changes) = codes " changes " ++ changes
+
+-- the line of a source of this name in the files that a configuration names
+abbrev pub files_text : List ℕ → List ℕ → Option (List ℕ) → List ℕ
+files_text source config changes = codes "source " ++ (source ++ (codes " config " ++ (config ++ changes_text changes)))
+
 -- the lines of a source of this name
 abbrev pub form_lines : List ℕ → SourceForm → List (List ℕ)
 form_lines source (Inline vertices edges) = record_lines source vertices edges ++ codes "end" ∷ []
+form_lines source (Files config changes) = files_text source config changes ∷ []
 
 -- the lines of a source
 abbrev pub source_lines : SourceText → List (List ℕ)

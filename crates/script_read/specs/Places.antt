@@ -1,31 +1,51 @@
 -- What a line does in the place where it stands.
-use Rattle.std.specs.Prelude.{ℕ, ◌==◌, ◌&&◌, ◌++◌, not, nat_le, if◌then◌else◌, Bool, List, [], ◌∷◌, length, codes, Result, Ok, Err}
+use Rattle.std.specs.Prelude.{ℕ, ◌==◌, ◌&&◌, ◌++◌, not, nat_le, if◌then◌else◌, Bool, List, [], ◌∷◌, length, codes, None, Result, Ok, Err}
 use Rattle.std.specs.List.{list_any}
 use Rattle.script_read.specs.declared.fault.LineWhy.{LineWhy}
 use Rattle.script_read.specs.declared.fault.LineWhy.TheVariants as why
 use Rattle.script_read.specs.declared.reading.Place.{Place}
 use Rattle.script_read.specs.declared.reading.Place.TheVariants as place
 use Rattle.script_read.specs.declared.reading.Reading.{Reading}
-use Rattle.script_read.specs.declared.script.SourceForm.TheVariants.{Inline}
+use Rattle.script_read.specs.declared.script.SourceForm.TheVariants.{Inline, Files}
 use Rattle.script_read.specs.declared.script.SourceText.{SourceText}
 use Rattle.script_read.specs.Commands.{command_of}
 use Rattle.script_read.specs.Faults.{◌>>=◌}
 use Rattle.script_read.specs.Later.{comes_later}
-use Rattle.script_read.specs.Words.{same, word_at, word_count, name, key, alone, one_name}
+use Rattle.script_read.specs.Words.{same, word_at, word_count, name, file_name, key, alone, one_name}
 
 -- whether a source has this name
 abbrev pub has_source : List SourceText → List ℕ → Bool
 has_source sources text = list_any (λ source. same source.name text) sources
 
+-- nothing, where one more source may stand under this name
+unfoldable pub new_source : List SourceText → List ℕ → Result (Unit {0}) LineWhy
+new_source sources source =
+    if has_source sources source then Err why.Twice
+    else if nat_le 64 (length sources) then Err why.Many
+    else Ok tt
+
 -- `source S inline`
-unfoldable pub source_line : Reading → List ℕ → Result Reading LineWhy
-source_line s line =
+unfoldable pub inline_line : Reading → List ℕ → Result Reading LineWhy
+inline_line s line =
     if not ((word_count line == 3) && same (word_at line 2) (codes "inline")) then Err why.Form
     else (do
       source ← name (word_at line 1)
-      if has_source s.sources source then Err why.Twice
-          else (if nat_le 64 (length s.sources) then Err why.Many
-          else Ok (record s { place = place.Vertices; source = record { name = source; vertices = []; edges = [] } })))
+      _ ← new_source s.sources source
+      Ok (record s { place = place.Vertices; source = record { name = source; vertices = []; edges = [] } }))
+
+-- `source S config FILE`, a source whole in its line: the place stays
+unfoldable pub files_line : Reading → List ℕ → Result Reading LineWhy
+files_line s line =
+    if not ((word_count line == 4) && same (word_at line 2) (codes "config")) then Err why.Form
+    else (do
+      source ← name (word_at line 1)
+      config ← file_name (word_at line 3)
+      _ ← new_source s.sources source
+      Ok (record s { sources = s.sources ++ record { name = source; form = Files config None } ∷ [] }))
+
+-- a source's line, by its third word
+unfoldable pub source_line : Reading → List ℕ → Result Reading LineWhy
+source_line s line = if same (word_at line 2) (codes "config") then files_line s line else inline_line s line
 
 -- `v KEY`
 unfoldable pub vertex_line : Reading → List ℕ → Result Reading LineWhy

@@ -50,6 +50,18 @@ is_name (c ∷ cs) = is_letter c && (list_all is_name_byte (c ∷ cs) && nat_le 
 unfoldable pub name : List ℕ → Result (List ℕ) LineWhy
 name word = if is_name word then Ok word else Err why.Name
 
+-- an ASCII letter, a digit, `_`, `.`, `-` or `/`
+abbrev pub is_file_byte : ℕ → Bool
+is_file_byte c = is_name_byte c || (c == 46) || (c == 45) || (c == 47)
+
+-- a file name is 1 to 255 of them
+abbrev pub is_file_name : List ℕ → Bool
+is_file_name text = nat_le 1 (length text) && (nat_le (length text) 255 && list_all is_file_byte text)
+
+-- a word that is due as a file name
+unfoldable pub file_name : List ℕ → Result (List ℕ) LineWhy
+file_name word = if is_file_name word then Ok word else Err why.Name
+
 -- decimal digits without a leading zero
 abbrev pub is_decimal : List ℕ → Bool
 is_decimal [] = false

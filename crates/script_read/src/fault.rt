@@ -15,7 +15,7 @@ pub enum LineWhy {
     Later,
     /// The number of words or a fixed word is wrong.
     Form,
-    /// A word is not the name that is due in its place.
+    /// A word is not the name or file name that is due in its place.
     Name,
     /// A word is not the number that is due in its place.
     Number,

@@ -1,12 +1,14 @@
 //! What has been read of a script, and what each kind of line does to it.
 ghost use Rattle.std.specs.Prelude.{◌≡◌};
-ghost use Rattle.script_read.specs.Faults.{Writes};
-ghost use Rattle.script_read.specs.Places.{has_source, source_line, vertex_line, edge_line, end_line, phase_line, actor_line, command_line, line_in};
+ghost use Rattle.script_read.specs.Faults.{Gives, Writes};
+ghost use Rattle.script_read.specs.Places.{has_source, new_source, inline_line, files_line, source_line, vertex_line, edge_line, end_line, phase_line, actor_line, command_line, line_in};
 
 use crate::command::read_command;
 use crate::fault::{LineFault, LineWhy};
 use crate::later::comes_later;
-use crate::words::{count_words, nth_word, read_alone, read_key, read_name, read_one_name};
+use crate::words::{
+    count_words, nth_word, read_alone, read_file_name, read_key, read_name, read_one_name,
+};
 use crate::{Command, SourceForm, SourceText};
 use column_types::{List, Text};
 use std::alloc::Global;
@@ -77,20 +79,56 @@ fn has_source(sources: &[SourceText], text: &str) -> bool
     sources.iter().any(|source| source.name.as_str() == text)
 }
 
+/// Nothing, where one more source may stand under a name.
+#[tactic(auto, unfolding(crate::specs::Places::new_source))]
+fn check_new_source(sources: &[SourceText], name: &str) -> Result<(), LineFault>
+    ensures { Gives result (new_source sources.now name.now) }
+{
+    if has_source(sources, name) {
+        return Err(LineFault::Bad(LineWhy::Twice));
+    }
+    if sources.len() >= MOST_SOURCES {
+        return Err(LineFault::Bad(LineWhy::Many));
+    }
+    Ok(())
+}
+
 #[tactic(auto, unfolding(crate::specs::Places::source_line))]
 fn read_source(alloc: Global, reading: &mut Reading, line: &str) -> Result<(), LineFault>
     ensures { Writes result reading.new (source_line reading.old line.now) }
+{
+    if nth_word(line, 2) == "config" {
+        read_files(alloc, reading, line)
+    } else {
+        read_inline(alloc, reading, line)
+    }
+}
+
+#[tactic(auto, unfolding(crate::specs::Places::files_line))]
+fn read_files(alloc: Global, reading: &mut Reading, line: &str) -> Result<(), LineFault>
+    ensures { Writes result reading.new (files_line reading.old line.now) }
+{
+    if !(count_words(line) == 4 && nth_word(line, 2) == "config") {
+        return Err(LineFault::Bad(LineWhy::Form));
+    }
+    let name = read_name(alloc, nth_word(line, 1))?;
+    let config = read_file_name(alloc, nth_word(line, 3))?;
+    check_new_source(reading.sources.as_slice(), name.as_str())?;
+    let changes = None;
+    let form = SourceForm::Files { config, changes };
+    reading.sources.push(SourceText { name, form })?;
+    Ok(())
+}
+
+#[tactic(auto, unfolding(crate::specs::Places::inline_line))]
+fn read_inline(alloc: Global, reading: &mut Reading, line: &str) -> Result<(), LineFault>
+    ensures { Writes result reading.new (inline_line reading.old line.now) }
 {
     if !(count_words(line) == 3 && nth_word(line, 2) == "inline") {
         return Err(LineFault::Bad(LineWhy::Form));
     }
     let name = read_name(alloc, nth_word(line, 1))?;
-    if has_source(reading.sources.as_slice(), name.as_str()) {
-        return Err(LineFault::Bad(LineWhy::Twice));
-    }
-    if reading.sources.len() >= MOST_SOURCES {
-        return Err(LineFault::Bad(LineWhy::Many));
-    }
+    check_new_source(reading.sources.as_slice(), name.as_str())?;
     reading.source = OpenSource {
         name,
         vertices: List::new(alloc),

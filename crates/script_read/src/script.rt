@@ -27,6 +27,12 @@ pub enum SourceForm {
         vertices: List<i64>,
         edges: List<(i64, i64, i64)>,
     },
+    /// In the files that the configuration in this file names, and of a file of changes, where there is one. No script has
+    /// one yet.
+    Files {
+        config: Text,
+        changes: Option<Text>,
+    },
 }
 
 /// What one actor does in one phase.

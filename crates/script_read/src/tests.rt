@@ -95,14 +95,38 @@ fn what_is_not_built_comes_later(rt: HostRuntime) -> Result<(), Fail> {
 #[test]
 fn a_source_has_its_form(rt: HostRuntime) {
     let alloc = rt.alloc();
-    assert!(rt; is_refused(alloc, b"source s config g.json\n", 1, LineWhy::Form));
-    assert!(rt; is_refused(alloc, b"source 1 config g.json\n", 1, LineWhy::Form));
     assert!(rt; is_refused(alloc, b"source 1 online\n", 1, LineWhy::Form));
     assert!(rt; is_refused(alloc, b"source s inline \n", 1, LineWhy::Form));
     assert!(rt; is_refused(alloc, b"source s inline\nv  1\n", 2, LineWhy::Form));
     assert!(rt; is_refused(alloc, b"source s inline\ne 1 2\n", 2, LineWhy::Form));
     assert!(rt; is_refused(alloc, b"source s inline\nend s\n", 2, LineWhy::Form));
     assert!(rt; is_refused(alloc, b"source  inline\n", 1, LineWhy::Name));
+}
+
+#[test]
+fn a_source_in_files_has_its_form(rt: HostRuntime) {
+    let alloc = rt.alloc();
+    assert!(rt; is_refused(alloc, b"source s config", 1, LineWhy::Form));
+    assert!(rt; is_refused(alloc, b"source s config \n", 1, LineWhy::Name));
+    assert!(rt; is_refused(alloc, b"source s config g.json \n", 1, LineWhy::Form));
+    assert!(rt; is_refused(alloc, b"source s configs g.json\n", 1, LineWhy::Form));
+    assert!(rt; is_refused(alloc, b"source s inline g.json\n", 1, LineWhy::Form));
+    let changes = b"source s config g.json changes c.csv\n";
+    assert!(rt; is_refused(alloc, changes, 1, LineWhy::Form));
+    let changes = b"source 1 config g.json changes c.csv\n";
+    assert!(rt; is_refused(alloc, changes, 1, LineWhy::Form));
+}
+
+#[test]
+fn a_file_has_a_file_name(rt: HostRuntime) -> Result<(), Fail> {
+    let alloc = rt.alloc();
+    assert!(rt; is_refused(alloc, b"source 1 config g.json\n", 1, LineWhy::Name));
+    assert!(rt; is_refused(alloc, b"source s config g?.json\n", 1, LineWhy::Name));
+    let mut script = Text::from_str(alloc, "source s config ")?;
+    let file = repeated(alloc, "f", 256)?;
+    script.push(file.as_str())?;
+    assert!(rt; is_refused(alloc, script.as_str().as_bytes(), 1, LineWhy::Name));
+    Ok(())
 }
 
 #[test]
@@ -155,6 +179,8 @@ fn a_source_ends(rt: HostRuntime) {
 fn a_name_stands_once(rt: HostRuntime) {
     let again = b"source s inline\nend\nsource t inline\nend\nsource s inline\n";
     assert!(rt; is_refused(rt.alloc(), again, 5, LineWhy::Twice));
+    let again = b"source s config g.json\nsource s config g.json\n";
+    assert!(rt; is_refused(rt.alloc(), again, 2, LineWhy::Twice));
 }
 
 /// Sources with the names n, nn and so on.
@@ -211,8 +237,29 @@ fn has_records(
 ) -> bool {
     match script.sources.get(place) {
         Some(source) => {
-            let SourceForm::Inline { vertices, edges } = &source.form;
-            source.name.as_str() == name && vertices.as_slice() == keys && edges.as_slice() == ends
+            match &source.form {
+                SourceForm::Inline { vertices, edges } => {
+                    source.name.as_str() == name
+                        && vertices.as_slice() == keys
+                        && edges.as_slice() == ends
+                }
+                SourceForm::Files { .. } => false,
+            }
+        }
+        None => false,
+    }
+}
+
+/// Whether the source at a place has this name and this configuration, and no changes.
+fn has_config(script: &Script, place: usize, name: &str, file: &str) -> bool {
+    match script.sources.get(place) {
+        Some(source) => {
+            match &source.form {
+                SourceForm::Inline { .. } => false,
+                SourceForm::Files { config, changes } => {
+                    source.name.as_str() == name && config.as_str() == file && changes.is_none()
+                }
+            }
         }
         None => false,
     }
@@ -224,6 +271,20 @@ fn sources_are_read(rt: HostRuntime) -> Result<(), Fail> {
     assert_eq!(rt; script.sources.len(), 2);
     assert!(rt; has_records(&script, 0, "s", &[1, 2], &[(10, 1, 2), (-11, 1, 2)]));
     assert!(rt; has_records(&script, 1, "t", &[], &[]));
+    Ok(())
+}
+
+#[test]
+fn sources_in_files_are_read(rt: HostRuntime) -> Result<(), Fail> {
+    let text =
+        b"source s config g.json\nsource t inline\nv 7\nend\nsource u config a-1/B_2.x\nphase\nactor a\nopen\nload g from s\nclose\n";
+    let script = read_script(rt.alloc(), text)?;
+    assert_eq!(rt; script.sources.len(), 3);
+    assert!(rt; has_config(&script, 0, "s", "g.json"));
+    assert!(rt; has_records(&script, 1, "t", &[7], &[]));
+    assert!(rt; has_config(&script, 2, "u", "a-1/B_2.x"));
+    let lines = command_lines(rt.alloc(), &script)?;
+    assert_eq!(rt; lines.as_str(), "|open|load g from s|close");
     Ok(())
 }
 

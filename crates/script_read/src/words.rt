@@ -2,7 +2,7 @@
 ghost use Rattle.std.specs.Prelude.{◌≡◌};
 ghost use Rattle.std.specs.List.{list_all};
 ghost use Rattle.script_read.specs.Faults.{Gives};
-ghost use Rattle.script_read.specs.Words.{word_count, word_at, has_word, is_letter, is_digit, is_name_byte, is_name, name, is_decimal, is_key, key_number, key, alone, one_name, two_names};
+ghost use Rattle.script_read.specs.Words.{word_count, word_at, has_word, is_letter, is_digit, is_name_byte, is_name, name, is_file_byte, is_file_name, file_name, is_decimal, is_key, key_number, key, alone, one_name, two_names};
 
 use crate::fault::{LineFault, LineWhy};
 use column_types::Text;
@@ -71,6 +71,35 @@ pub fn read_name(alloc: Global, word: &str) -> Result<Text, LineFault>
     ensures { Gives result (name word.now) }
 {
     if !is_name(word.as_bytes()) {
+        return Err(LineFault::Bad(LineWhy::Name));
+    }
+    Ok(Text::from_str(alloc, word)?)
+}
+
+fn is_file_byte(c: u8) -> bool
+    ensures { result ≡ is_file_byte c }
+{
+    is_name_byte(c) || c == b'.' || c == b'-' || c == b'/'
+}
+
+fn are_file_bytes(bytes: &[u8]) -> bool
+    ensures { result ≡ list_all is_file_byte bytes.now }
+{
+    bytes.iter().all(|c| is_file_byte(*c))
+}
+
+fn is_file_name(bytes: &[u8]) -> bool
+    ensures { result ≡ is_file_name bytes.now }
+{
+    1 <= bytes.len() && bytes.len() <= 255 && are_file_bytes(bytes)
+}
+
+/// A word that is due as a file name.
+#[tactic(auto, unfolding(crate::specs::Words::file_name))]
+pub fn read_file_name(alloc: Global, word: &str) -> Result<Text, LineFault>
+    ensures { Gives result (file_name word.now) }
+{
+    if !is_file_name(word.as_bytes()) {
         return Err(LineFault::Bad(LineWhy::Name));
     }
     Ok(Text::from_str(alloc, word)?)
