@@ -1,0 +1,11 @@
+pub mod Taking
+pub mod Reader
+pub mod Putting
+pub mod Fields
+pub mod Growing
+pub mod Fitting
+pub mod Standing
+pub mod First
+pub mod Lines
+pub mod FieldKinds
+pub mod Causes
