@@ -1,8 +1,10 @@
 pub mod Endings
 pub mod Usages
 pub mod Statuses
-pub mod Lines
 pub mod Answered
-pub mod Applying
 pub mod Names
 pub mod Scripts
+pub mod Kept
+pub mod Opens
+pub mod Dues
+pub mod FewCommands

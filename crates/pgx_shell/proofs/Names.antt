@@ -1,52 +1,13 @@
 -- The names of open sources differ, since those of the script do.
-use Rattle.std.proofs.Common.{◌≡◌, ◌≢◌, ◌∙◌, refl, sym, ap, ℕ, suc, ◌+◌, ◌<◌, ◌≤◌, Bool, true, false, List, [], ◌∷◌, ◌++◌, length, map, get_or, Result, Ok, Err, Option, Some, None, arith, count_by, append_assoc}
+use Rattle.std.proofs.Common.{◌≡◌, ◌≢◌, ◌∙◌, refl, sym, ap, ℕ, suc, ◌+◌, ◌<◌, ◌≤◌, Bool, true, false, List, [], ◌∷◌, length, map, get_or, arith, count_by}
 use Rattle.std.specs.Prelude.{AllPairs, cond}
 use Rattle.std.specs.Str.{bytes_eq}
-use Rattle.std.proofs.lemmas.List.{append-nil}
 use Rattle.std.proofs.lemmas.Slice.Eq.{bytes_eq-Decides}
-use Rattle.graph_model.specs.Graph.{GraphData}
 use Rattle.graph_model.proofs.Rows.{count_cons}
 use Rattle.catalogue.specs.Bound.{NamesDiffer}
 use Rattle.catalogue.specs.declared.parts.SourceData.{SourceData}
 use Rattle.script_read.specs.declared.script.SourceText.{SourceText}
-use Rattle.script_read.specs.declared.script.SourceForm.{SourceForm}
-use Rattle.script_read.specs.declared.script.SourceForm.TheVariants.{Inline}
-use Rattle.pgx_shell.specs.Inline.{inline_graph}
-use Rattle.pgx_shell.specs.Opening.{◌>>=◌, graph_opened, form_opened, source_opened, opened_after, opened}
-use Rattle.pgx_shell.specs.declared.stop.Stop.{Stop}
-
-name_of_text : SourceText → List ℕ
-name_of_text s = s.name
-
-name_of_source : SourceData → List ℕ
-name_of_source s = s.name
-
--- what a source opens to has its name
-graph_named : (name : List ℕ) (o : Option GraphData) (d : SourceData) → graph_opened name o ≡ Ok d → d.name ≡ name
-graph_named name None d h = absurd cc
-graph_named name (Some g) d h = let e : ◌≡◌ {A = SourceData} (record { name = name; opening = g; changes = [] }) d = cc in sym (ap (λ s. s.name) e)
-
-form_named : (name : List ℕ) (form : SourceForm) (d : SourceData) → form_opened name form ≡ Ok d → d.name ≡ name
-form_named name (Inline vertices edges) d h = graph_named name (inline_graph vertices edges) d h
-
-after_named : (r : Result SourceData Stop) (done : List SourceData) (name : List ℕ) (sources : List SourceText) (out : List SourceData)
-    → ((d : SourceData) → r ≡ Ok d → d.name ≡ name)
-    → ((d : SourceData) → opened_after (done ++ d ∷ []) sources ≡ Ok out → map (λ d. d.name) out ≡ map (λ d. d.name) (done ++ d ∷ []) ++ map (λ s. s.name) sources)
-    → (r >>= λ opening. opened_after (done ++ opening ∷ []) sources) ≡ Ok out
-    → (d : SourceData) × (d.name ≡ name) × (map (λ d. d.name) out ≡ map (λ d. d.name) (done ++ d ∷ []) ++ map (λ s. s.name) sources)
-after_named (Ok d) done name sources out named rest h = (d, named d refl, rest d h)
-after_named (Err stop) done name sources out named rest h = absurd cc
-
-map-push : (done : List SourceData) (d : SourceData) → map (λ d. d.name) (done ++ d ∷ []) ≡ map (λ d. d.name) done ++ d.name ∷ []
-map-push [] d = refl
-map-push (x ∷ xs) d = ap (λ l. x.name ∷ l) (map-push xs d)
-
-opened_named : (done : List SourceData) (sources : List SourceText) (out : List SourceData) → opened_after done sources ≡ Ok out
-    → map (λ d. d.name) out ≡ map (λ d. d.name) done ++ map (λ s. s.name) sources
-opened_named done [] out h = let e : done ≡ out = cc in sym (append-nil (map (λ d. d.name) out)) ∙ ap (λ l. map (λ d. d.name) l ++ []) (sym e)
-opened_named done (s ∷ ss) out h =
-    let o = after_named (source_opened s) done s.name ss out (λ d e. form_named s.name s.form d e) (λ d e. opened_named (done ++ d ∷ []) ss out e) h in
-    o.2 ∙ ap (λ l. l ++ map (λ s. s.name) ss) (map-push done o.0 ∙ ap (λ n. map (λ d. d.name) done ++ n ∷ []) o.1) ∙ append_assoc (map (λ d. d.name) done) (s.name ∷ []) (map (λ s. s.name) ss)
+use Rattle.pgx_shell.specs.Opening.{names_of, opened_names}
 
 module _ (n : List ℕ) where
   abbrev is_named : List ℕ → Bool
@@ -88,8 +49,8 @@ module _ (n : List ℕ) where
       count_cons (λ d. bytes_eq d.name n) d ds ∙ ap (λ k. cond {A = ℕ} (is_named d.name) 1 0 + k) (counts_names ds)
       ∙ sym (count_cons is_named d.name (map (λ d. d.name) ds))
 
-pub names_differ : (sources : List SourceText) (out : List SourceData) → AllPairs (λ s t. s.name ≢ t.name) sources → opened sources ≡ Ok out → NamesDiffer out
-names_differ sources out differ opens n =
-    let same = counts_names n out ∙ ap (count_by (λ m. bytes_eq m n)) (opened_named [] sources out opens) in
+pub names_differ : (sources : List SourceText) (out : List SourceData) → AllPairs (λ s t. s.name ≢ t.name) sources → opened_names out ≡ names_of sources → NamesDiffer out
+names_differ sources out differ same_names n =
+    let same = counts_names n out ∙ ap (count_by (λ m. bytes_eq m n)) same_names in
     let once = named_once n sources differ in
     omega arith

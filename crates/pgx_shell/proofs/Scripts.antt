@@ -1,5 +1,5 @@
 -- A script of one actor is run.
-use Rattle.std.proofs.Common.{◌≡◌, ◌≢◌, ◌∙◌, refl, sym, ap, subst, ℕ, zero, suc, ◌+◌, ◌≤◌, Bool, List, [], ◌∷◌, ◌++◌, length, map, if◌then◌else◌, eq-eqb, ne_eqb, Ok, Option, Some, None, IfSome, arith}
+use Rattle.std.proofs.Common.{◌≡◌, ◌≢◌, ◌∙◌, refl, sym, ap, subst, ℕ, zero, suc, ◌+◌, ◌≤◌, Bool, List, [], ◌∷◌, ◌++◌, length, map, if◌then◌else◌, eq-eqb, ne_eqb, Option, Some, None, arith}
 use Rattle.std.specs.List.{AllByRecursion}
 use Rattle.std.proofs.lemmas.List.{append-nil}
 use Rattle.std.proofs.lemmas.List.Elements.{recursion_from_All}
@@ -26,8 +26,6 @@ use Rattle.session_run.specs.Own.{fresh_own}
 use Rattle.session_run.specs.Language.{ActorMind, rules, first_mind, in_phase, block_todo, phases_todo}
 use Rattle.session_run.specs.Turns.{ActorRecord, worked, stand, Stands}
 use Rattle.session_run.specs.Ran.{between, IsAtWork, Ran}
-use Rattle.pgx_shell.specs.Due.{script_due, IsRun, IsRunNamed}
-use Rattle.pgx_shell.specs.Opening.{opened as sources_opened}
 use Rattle.pgx_shell.specs.Run.{IsRunOf, HasNoCommand, HasRun, one_phase, only_block}
 
 -- the history before any call
@@ -236,11 +234,3 @@ block_run script sources block before after records J is some new run legal made
 -- the actor of the block is at work before any call
 pub block_work : (sources : List SourceData) (before : History) (who : ℕ) → before ≡ before_any sources → IsAtWork who (worked before [] fresh_own [])
 block_work sources before who new = subst (λ (h : History). IsAtWork who (worked h [] fresh_own [])) (sym new) (fresh_work sources who)
-
--- an accepted script over its open sources is run
-pub run_is : (rest : Option (List ℕ)) (script : Script) (sources : List SourceData) (J : List ActorRecord) → IfSome rest (λ bytes. script_due bytes ≡ Ok script)
-    → sources_opened script.sources ≡ Ok sources → IsRunOf script sources J → IfSome rest (IsRun script.actors J)
-run_is None script sources J read opens ran = tt
-run_is (Some bytes) script sources J read opens ran =
-    let whole : IsRunNamed (record { script = script; sources = sources }) script.actors J = record { names_are = refl; is_run = ran } in
-    rw read (rw opens whole)

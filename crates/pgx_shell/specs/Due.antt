@@ -1,11 +1,10 @@
 -- What the bytes of a script come to, where nothing fails.
-use Rattle.std.specs.Prelude.{◌≡◌, ℕ, List, Result, Ok, Err, IsOkAnd, length, nat_lt, if◌then◌else◌}
+use Rattle.std.specs.Prelude.{◌≡◌, ℕ, List, Option, Result, Ok, Err, IsOk, IfSome, length, nat_lt, if◌then◌else◌}
 use Rattle.script_read.specs.Script.{script_of}
 use Rattle.script_read.specs.declared.script.Script.{Script}
 use Rattle.script_read.specs.declared.fault.LineWhy.{LineWhy}
+use Rattle.pgx_io.specs.Files.{Files}
 use Rattle.pgx_shell.specs.Opening.{opened, ◌>>=◌}
-use Rattle.pgx_shell.specs.Run.{IsRunOf}
-use Rattle.session_run.specs.Turns.{ActorRecord}
 use Rattle.catalogue.specs.declared.parts.SourceData.{SourceData}
 use Rattle.pgx_shell.specs.declared.stop.Stop.{Stop}
 use Rattle.pgx_shell.specs.declared.stop.Stop.TheVariants.{TooLong, BadLine}
@@ -24,14 +23,21 @@ line_stop (Err fault) = Err (BadLine fault.0 fault.1)
 abbrev pub script_due : List ℕ → Result Script Stop
 script_due bytes = if nat_lt 16777216 (length bytes) then Err TooLong else line_stop (script_of bytes)
 
--- the script with its open sources, or the first fault
-abbrev pub due : List ℕ → Result Run Stop
-due bytes = script_due bytes >>= λ script. opened script.sources >>= λ sources. Ok (record { script = script; sources = sources })
+-- the script with its open sources, or the first stop
+abbrev pub due : List ℕ → Files → Result Run Stop
+due bytes files = script_due bytes >>= λ script. opened files script.sources >>= λ sources. Ok (record { script = script; sources = sources })
 
--- the bytes are accepted, and this is the journal of a run of the script, whose actors have these names
-pub record IsRunNamed (run : Run) (names : List (List ℕ)) (J : List ActorRecord) : Type 0 where
-  pub names_are : names ≡ run.script.actors
-  pub is_run : IsRunOf run.script run.sources J
+-- what holds of the source's bytes and the library's files, where both are told
+abbrev pub IfBoth : Option (List ℕ) → Option Files → (List ℕ → Files → Type 0) → Type 0
+IfBoth rest told P = IfSome rest (λ bytes. IfSome told (λ files. P bytes files))
 
-abbrev pub IsRun : List (List ℕ) → List ActorRecord → List ℕ → Type 0
-IsRun names J bytes = IsOkAnd (due bytes) (λ run. IsRunNamed run names J)
+-- This is what is due: the script where the source tells its bytes, and its open sources where the library tells its files, too.
+pub record IsDue (rest : Option (List ℕ)) (told : Option Files) (run : Run) : Type 0 where
+  pub script : IfSome rest (λ bytes. script_due bytes ≡ Ok run.script)
+  pub sources : IfBoth rest told (λ bytes files. due bytes files ≡ Ok run)
+
+-- The sources bring this stop: the script is accepted where the source tells its bytes, and the stop is due where the library
+-- tells its files, too.
+pub record IsStopDue (rest : Option (List ℕ)) (told : Option Files) (stop : Stop) : Type 0 where
+  pub script : IfSome rest (λ bytes. IsOk (script_due bytes))
+  pub stops : IfBoth rest told (λ bytes files. due bytes files ≡ Err stop)

@@ -1,6 +1,6 @@
-pub mod Fault
-pub mod Inline
+pub mod FaultNames
 pub mod Opening
+pub mod Laws
 pub mod Run
 pub mod Journal
 pub mod Due

@@ -1,41 +1,131 @@
--- What the sources of a script open to.
-use Rattle.std.specs.Prelude.{◌≡◌, ℕ, List, [], ◌∷◌, ◌++◌, Option, Some, None, Result, Ok, Err, ⊤}
+-- What the sources of a script open to, over the files of a library.
+use Rattle.std.specs.Prelude.{◌≡◌, ℕ, ℤ, List, [], ◌∷◌, ◌++◌, map, codes, slice_get, unwrap_or, Option, Some, None, IfSome, Result, Ok, Err, ⊤}
+use Rattle.pgx_io.specs.Files.{Files}
+use Rattle.graph_config.specs.Config.{ConfigData, config_of}
+use Rattle.graph_config.specs.Fault.{Fault}
+use Rattle.graph_config.specs.declared.fault.ConfigFault.{ConfigFault}
+use Rattle.graph_config.specs.declared.fault.ConfigFault.TheVariants as config_fault
+use Rattle.table_loader.specs.Tables.{tables_of}
+use Rattle.table_loader.specs.Inline.{inline_of}
+use Rattle.table_loader.specs.declared.fault.LoadFault.{LoadFault}
+use Rattle.table_loader.specs.declared.fault.LoadFault.TheVariants as load_fault
 use Rattle.graph_model.specs.Graph.{GraphData}
 use Rattle.script_read.specs.declared.script.SourceForm.{SourceForm}
-use Rattle.script_read.specs.declared.script.SourceForm.TheVariants.{Inline}
+use Rattle.script_read.specs.declared.script.SourceForm.TheVariants as form
 use Rattle.script_read.specs.declared.script.SourceText.{SourceText}
-use Rattle.pgx_shell.specs.Inline.{inline_graph}
 use Rattle.catalogue.specs.declared.parts.SourceData.{SourceData}
 use Rattle.pgx_shell.specs.declared.stop.Stop.{Stop}
-use Rattle.pgx_shell.specs.declared.stop.Stop.TheVariants.{BadSource, NoMemory}
+use Rattle.pgx_shell.specs.declared.stop.Stop.TheVariants.{NoFile, BadConfig, BadTable, ReadFault, NoMemory}
 
+-- the second step takes what the first gives; the first stop stays
 infixl 10 ◌>>=◌
 abbrev pub ◌>>=◌ : {A B : Type 0} → Result A Stop → (A → Result B Stop) → Result B Stop
 (Ok x) >>= f = f x
 (Err stop) >>= f = Err stop
 
-abbrev pub graph_opened : List ℕ → Option GraphData → Result SourceData Stop
-graph_opened name None = Err BadSource
-graph_opened name (Some g) = Ok (record { name = name; opening = g; changes = [] })
+-- what was looked up under a name, or that no file has it
+abbrev pub found : List ℕ → Option (List ℕ) → Result (List ℕ) Stop
+found name None = Err (NoFile name)
+found name (Some bytes) = Ok bytes
 
-abbrev pub form_opened : List ℕ → SourceForm → Result SourceData Stop
-form_opened name (Inline vertices edges) = graph_opened name (inline_graph vertices edges)
+-- the bytes of the file of this name
+abbrev pub file_got : Files → List ℕ → Result (List ℕ) Stop
+file_got files name = found name (files name)
 
--- what one source opens to: its name and its opening graph, or its fault
-abbrev pub source_opened : SourceText → Result SourceData Stop
-source_opened source = form_opened source.name source.form
+-- what stands got already, and the bytes of the files of the other names, or the first name without a file
+abbrev pub got_after : Files → List (List ℕ) → List (List ℕ) → Result (List (List ℕ)) Stop
+got_after files done [] = Ok done
+got_after files done (name ∷ names) = file_got files name >>= λ bytes. got_after files (done ++ bytes ∷ []) names
 
--- what stands open already, and what the other sources open to, or the first fault
-abbrev pub opened_after : List SourceData → List SourceText → Result (List SourceData) Stop
-opened_after done [] = Ok done
-opened_after done (source ∷ sources) = source_opened source >>= λ opening. opened_after (done ++ opening ∷ []) sources
+-- the bytes of the files of these names in their order, or the first name without a file
+abbrev pub files_got : Files → List (List ℕ) → Result (List (List ℕ)) Stop
+files_got files names = got_after files [] names
 
--- what the sources open to in their order, or the first fault
-abbrev pub opened : List SourceText → Result (List SourceData) Stop
-opened sources = opened_after [] sources
+-- what the file of this name was read as, or its fault with the name
+abbrev pub config_named : List ℕ → Result ConfigData Fault → Result ConfigData Stop
+config_named name (Ok config) = Ok config
+config_named name (Err fault) = Err (BadConfig name (config_fault.At fault.0 fault.1))
 
--- why opening stops: by the fault that is due, or since memory ran out
-abbrev pub OpenCause : {A : Type 0} → Result A Stop → Stop → Type 0
-OpenCause due BadSource = due ≡ Err BadSource
-OpenCause due NoMemory = ⊤
-OpenCause due _ = ⊥
+-- the stop that a fault in the records of the files of these names is: it has the name of the file
+abbrev pub table_stop : List (List ℕ) → LoadFault → Stop
+table_stop names (load_fault.Bad file row number) = BadTable (unwrap_or (slice_get names file) []) row number
+table_stop names load_fault.NoMemory = NoMemory
+
+-- what the files of these names were read as, or their fault with the name
+abbrev pub tables_named : List (List ℕ) → Result GraphData LoadFault → Result GraphData Stop
+tables_named names (Ok graph) = Ok graph
+tables_named names (Err fault) = Err (table_stop names fault)
+
+-- the graph in these files of a configuration
+abbrev pub tables_read : ConfigData → List (List ℕ) → Result GraphData Stop
+tables_read config tables = tables_named config.files (tables_of config.schema tables)
+
+-- the graph of a configuration: all its files are got, and then they are read
+abbrev pub config_graph : Files → ConfigData → Result GraphData Stop
+config_graph files config = files_got files config.files >>= λ tables. tables_read config tables
+
+-- the configuration in the file of this name with these bytes
+abbrev pub config_read : List ℕ → List ℕ → Result ConfigData Stop
+config_read name bytes = config_named name (config_of bytes)
+
+-- the graph of the configuration in the file of this name
+abbrev pub file_graph : Files → List ℕ → Result GraphData Stop
+file_graph files name = file_got files name >>= λ bytes. config_read name bytes >>= λ config. config_graph files config
+
+-- the lines of an inline source are the records of two files, which have these names
+abbrev pub inline_files : List ℕ → List (List ℕ)
+inline_files name = (name ++ codes ".V") ∷ (name ++ codes ".E") ∷ []
+
+-- the graph in the lines of an inline source of this name
+abbrev pub lines_graph : List ℕ → List ℤ → List (ℤ × ℤ × ℤ) → Result GraphData Stop
+lines_graph name vertices edges = tables_named (inline_files name) (inline_of vertices edges)
+
+abbrev pub form_graph : Files → List ℕ → SourceForm → Result GraphData Stop
+form_graph files name (form.Inline vertices edges) = lines_graph name vertices edges
+form_graph files name (form.Files config changes) = file_graph files config
+
+-- the graph of a source: an inline source looks up no file, another the one of its configuration and then those of its tables
+abbrev pub source_graph : Files → SourceText → Result GraphData Stop
+source_graph files source = form_graph files source.name source.form
+
+-- what one source opens to: its name and its graph
+abbrev pub source_opened : Files → SourceText → Result SourceData Stop
+source_opened files source = source_graph files source >>= λ graph. Ok (record { name = source.name; opening = graph; changes = [] })
+
+-- what stands open already, and what the other sources open to, or the first stop
+abbrev pub opened_after : Files → List SourceData → List SourceText → Result (List SourceData) Stop
+opened_after files done [] = Ok done
+opened_after files done (source ∷ sources) = source_opened files source >>= λ opening. opened_after files (done ++ opening ∷ []) sources
+
+-- what the sources open to in their order, or the first stop
+abbrev pub opened : Files → List SourceText → Result (List SourceData) Stop
+opened files sources = opened_after files [] sources
+
+-- the names of sources, and of what they open to
+abbrev pub names_of : List SourceText → List (List ℕ)
+names_of sources = map (λ source. source.name) sources
+
+abbrev pub opened_names : List SourceData → List (List ℕ)
+opened_names openings = map (λ opening. opening.name) openings
+
+-- a fault with its number and path, not want of memory
+abbrev pub HasNumber : ConfigFault → Type 0
+HasNumber (config_fault.At number path) = ⊤
+HasNumber config_fault.NoMemory = ⊥
+
+-- why reading what was got stops: it comes to this stop, or memory ran out
+abbrev pub ReadCause : {A : Type 0} → Result A Stop → Stop → Type 0
+ReadCause due (BadConfig file fault) = HasNumber fault × (due ≡ Err (BadConfig file fault))
+ReadCause due (BadTable file row number) = due ≡ Err (BadTable file row number)
+ReadCause due NoMemory = ⊤
+ReadCause due _ = ⊥
+
+-- Why opening stops, where the library tells the files `told` and what comes of files is `due`: by the stop that is due, since
+-- the library's faults rose (`reading`), or since memory ran out.
+abbrev pub OpenCause : {A : Type 0} → Option Files → (Files → Result A Stop) → Type 0 → Stop → Type 0
+OpenCause told due reading (NoFile name) = IfSome told (λ files. due files ≡ Err (NoFile name))
+OpenCause told due reading (BadConfig file fault) = HasNumber fault × IfSome told (λ files. due files ≡ Err (BadConfig file fault))
+OpenCause told due reading (BadTable file row number) = IfSome told (λ files. due files ≡ Err (BadTable file row number))
+OpenCause told due reading ReadFault = reading
+OpenCause told due reading NoMemory = ⊤
+OpenCause told due reading _ = ⊥

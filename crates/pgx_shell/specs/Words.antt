@@ -2,11 +2,11 @@
 use Rattle.std.specs.Prelude.{◌+◌, ◌<◌, ◌≤◌, ℕ, List, [], ◌∷◌, ◌++◌, Option, Some, None, IsSome, is_some, if◌then◌else◌, codes, take, length}
 use Rattle.std.specs.Str.{bytes_eq}
 use Rattle.pgx_shell.specs.declared.words.Action.{Action}
-use Rattle.pgx_shell.specs.declared.words.Action.TheVariants.{Once}
+use Rattle.pgx_shell.specs.declared.words.Action.TheVariants.{Once, Check}
 
 -- what the first word asks for
 abbrev pub action_of : List ℕ → Option Action
-action_of word = if bytes_eq word (codes "once") then Some Once else None
+action_of word = if bytes_eq word (codes "once") then Some Once else if bytes_eq word (codes "check") then Some Check else None
 
 -- the form that the words are, where they are one
 abbrev pub form_of : List (List ℕ) → Option Action

@@ -1,15 +1,17 @@
-//! The command `once`.
-ghost use Rattle.std.specs.Prelude.{◌≡◌, ◌≤◌, IfOk, IfErr, OnOk, IfSome, Ok, None};
+//! The commands `once` and `check`.
+ghost use Rattle.std.specs.Prelude.{◌≡◌, ◌⊎◌, ◌≤◌, IfOk, IfErr, OnOk, IfSome, Ok, None};
 ghost use Rattle.std.specs.Io.KnownBytes.{Appends, IsAtEnd};
 ghost use Rattle.pgx_io.specs.Causes.{Rose};
+ghost use Rattle.pgx_io.specs.Files.{KeepsFiles};
 ghost use Rattle.pgx_io.specs.Whole.{AppendsFront};
 ghost use Rattle.pgx_shell.specs.Due.{script_due};
 ghost use Rattle.script_read.specs.Meaning.{IsScript};
 ghost use Rattle.pgx_shell.specs.Causes.{ScriptCause, StopCause, StopWrites};
-ghost use Rattle.pgx_shell.specs.Texts.{OnceOutcome, Wrote};
+ghost use Rattle.pgx_shell.specs.Texts.{OnceOutcome, CheckOutcome, Wrote};
 
 use crate::Stop;
-use crate::open::open_sources;
+use crate::counts::counts_text;
+use crate::open::{check_sources, open_sources};
 use crate::printing::journal;
 use crate::run::run_script;
 use column_types::Text;
@@ -22,48 +24,97 @@ use std::thread::Threads;
 #[derive(Clone, Copy, Debug)]
 pub struct Done {}
 
-/// Runs the script of a source, one command after another, and writes its journal.
+/// Runs the script of a source over its sources, one command after another, and writes its journal.
 pub fn once<R: Threads + Sync, S: Source, L: Library, K: Sink>(
     rt: &R,
     alloc: Global,
     workers: u32,
     src: &mut S,
-    _lib: &mut L,
+    lib: &mut L,
     out: &mut K,
 ) -> Result<Done, Stop>
     // Done: the source was read to its end, and the sink took the journal of a run of its script.
     ensures read { OnOk result (IsAtEnd (S.rest src.new)) }
-    ensures written { OnOk result (Wrote (OnceOutcome (S.rest src.old)) (K.taken out.old) (K.taken out.new)) }
+    ensures written { OnOk result (Wrote (OnceOutcome (S.rest src.old) (L.files lib.old)) (K.taken out.old) (K.taken out.new)) }
 
     // A stop has its cause, and says what was written.
-    ensures cause { IfErr result (StopCause (S.rest src.old) (Rose (S.faults src.old) (S.faults src.new))
+    ensures cause { IfErr result (StopCause (S.rest src.old) (L.files lib.old)
+        (Rose (S.faults src.old) (S.faults src.new) ⊎ Rose (L.faults lib.old) (L.faults lib.new))
         (Rose (K.faults out.old) (K.faults out.new))) }
-    ensures left { IfErr result (StopWrites (OnceOutcome (S.rest src.old)) (K.taken out.old) (K.taken out.new)) }
+    ensures left { IfErr result (StopWrites (OnceOutcome (S.rest src.old) (L.files lib.old)) (K.taken out.old) (K.taken out.new)) }
 
-    // Faults are never taken back.
+    // Faults are never taken back, and the files stay.
     ensures source_later { S.faults src.old ≤ S.faults src.new }
+    ensures library_later { L.faults lib.old ≤ L.faults lib.new }
+    ensures library_same { KeepsFiles (L.files lib.old) (L.files lib.new) }
     ensures sink_later { K.faults out.old ≤ K.faults out.new }
 {
-    let text = once_text(rt, alloc, workers, src)?;
+    let text = once_text(rt, alloc, workers, src, lib)?;
+    write_text(out, text.as_str())
+}
+
+/// Reads the script of a source and its sources, and writes the line `ok S A C` of the numbers of sources, actors and commands.
+pub fn check<S: Source, L: Library, K: Sink>(
+    alloc: Global,
+    src: &mut S,
+    lib: &mut L,
+    out: &mut K,
+) -> Result<Done, Stop>
+    // Done: the source was read to its end, and the sink took the line of its script, whose sources can be opened.
+    ensures read { OnOk result (IsAtEnd (S.rest src.new)) }
+    ensures written { OnOk result (Wrote (CheckOutcome (S.rest src.old) (L.files lib.old)) (K.taken out.old) (K.taken out.new)) }
+
+    // A stop has its cause, and says what was written.
+    ensures cause { IfErr result (StopCause (S.rest src.old) (L.files lib.old)
+        (Rose (S.faults src.old) (S.faults src.new) ⊎ Rose (L.faults lib.old) (L.faults lib.new))
+        (Rose (K.faults out.old) (K.faults out.new))) }
+    ensures left { IfErr result (StopWrites (CheckOutcome (S.rest src.old) (L.files lib.old)) (K.taken out.old) (K.taken out.new)) }
+
+    // Faults are never taken back, and the files stay.
+    ensures source_later { S.faults src.old ≤ S.faults src.new }
+    ensures library_later { L.faults lib.old ≤ L.faults lib.new }
+    ensures library_same { KeepsFiles (L.files lib.old) (L.files lib.new) }
+    ensures sink_later { K.faults out.old ≤ K.faults out.new }
+{
+    let text = check_text(alloc, src, lib)?;
     write_text(out, text.as_str())
 }
 
 /// The journal of the script of a source.
-fn once_text<R: Threads + Sync, S: Source>(
+fn once_text<R: Threads + Sync, S: Source, L: Library>(
     rt: &R,
     alloc: Global,
     workers: u32,
     src: &mut S,
+    lib: &mut L,
 ) -> Result<Text, Stop>
     ensures read { OnOk result (IsAtEnd (S.rest src.new)) }
-    ensures text { IfOk result (λ text. OnceOutcome (S.rest src.old) (record { text = text; book = None })) }
-    ensures cause { IfErr result (StopCause (S.rest src.old) (Rose (S.faults src.old) (S.faults src.new)) ⊥) }
+    ensures text { IfOk result (λ text. OnceOutcome (S.rest src.old) (L.files lib.old) (record { text = text; book = None })) }
+    ensures cause { IfErr result (StopCause (S.rest src.old) (L.files lib.old)
+        (Rose (S.faults src.old) (S.faults src.new) ⊎ Rose (L.faults lib.old) (L.faults lib.new)) ⊥) }
     ensures later { S.faults src.old ≤ S.faults src.new }
+    ensures library_later { L.faults lib.old ≤ L.faults lib.new }
+    ensures library_same { KeepsFiles (L.files lib.old) (L.files lib.new) }
 {
     let script = read_source(alloc, src)?;
-    let sources = open_sources(rt, alloc, script.sources.as_slice())?;
+    let sources = open_sources(rt, alloc, script.sources.as_slice(), lib)?;
     let records = run_script(rt, alloc, &script, sources, workers)?;
     Ok(journal(rt, alloc, records.as_slice(), script.actors.as_slice())?)
+}
+
+/// The line of numbers of the script of a source.
+fn check_text<S: Source, L: Library>(alloc: Global, src: &mut S, lib: &mut L) -> Result<Text, Stop>
+    ensures read { OnOk result (IsAtEnd (S.rest src.new)) }
+    ensures text { IfOk result (λ text. CheckOutcome (S.rest src.old) (L.files lib.old) (record { text = text; book = None })) }
+    ensures cause { IfErr result (StopCause (S.rest src.old) (L.files lib.old)
+        (Rose (S.faults src.old) (S.faults src.new) ⊎ Rose (L.faults lib.old) (L.faults lib.new)) ⊥) }
+    ensures later { S.faults src.old ≤ S.faults src.new }
+    ensures library_later { L.faults lib.old ≤ L.faults lib.new }
+    ensures library_same { KeepsFiles (L.files lib.old) (L.files lib.new) }
+{
+    let script = read_source(alloc, src)?;
+    check_sources(alloc, script.sources.as_slice(), lib)?;
+    Ok(counts_text(alloc, &script)?)
 }
 
 /// Writes a whole text.

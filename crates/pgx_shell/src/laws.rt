@@ -1,8 +1,16 @@
 //! Laws of the definitions, in words of their own.
-ghost use Rattle.pgx_shell.specs.Inline.{LinesStandForAGraph};
+ghost use Rattle.pgx_shell.specs.Laws.{OpenEach, StopAtFirst, InlineNeedsNoFile, ToldMissing, RecordsAfterFiles};
 
-/// The lines of an inline source are accepted exactly where their rows are a graph: keys differ, ends exist, and the limits
-/// hold. The graph is then these rows.
-pub fn inline_lines_stand_for_a_graph()
-    ensures { LinesStandForAGraph }
+/// Sources open exactly where each does, each to what it is by itself; else the stop is that of the first that does not open.
+pub fn sources_open_one_by_one()
+    ensures each { OpenEach }
+    ensures first { StopAtFirst }
+{}
+
+/// An inline source needs no file. A file that is told as missing is missing, and a record is told at fault only where all files
+/// of its configuration are there.
+pub fn files_are_there_before_records_are_read()
+    ensures inline { InlineNeedsNoFile }
+    ensures missing { ToldMissing }
+    ensures records { RecordsAfterFiles }
 {}

@@ -1,12 +1,14 @@
 //! The program over any outside: words, a script, its run, the journal, the error lines.
 //!
 //! [`top`] does all that the program does. It is proved for every source, library and sink that keep the clauses of
-//! `pgx_io`; the program crate hands in the real ones. [`once`] is the command of that name.
+//! `pgx_io`; the program crate hands in the real ones. [`once`] and [`check`] are the commands of these names.
 #![tactic(auto)]
 
 mod commands;
-mod inline;
+mod counts;
+mod files;
 mod laws;
+mod lines;
 mod open;
 mod printing;
 mod run;
@@ -16,9 +18,8 @@ mod tests;
 mod whole;
 mod words;
 
-pub use commands::{Done, once};
-pub use inline::inline_graph;
-pub use laws::inline_lines_stand_for_a_graph;
+pub use commands::{Done, check, once};
+pub use laws::{files_are_there_before_records_are_read, sources_open_one_by_one};
 pub use printing::journal;
 pub use stop::Stop;
 pub use whole::{Status, top};

@@ -1,11 +1,11 @@
 //! Running a script on one thread.
-ghost use Rattle.std.specs.Prelude.{◌≡◌, ◌≤◌, [], length, Ok, IfOk};
+ghost use Rattle.std.specs.Prelude.{◌≡◌, ◌≤◌, [], length, IfOk};
 ghost use Rattle.std.specs.Option.{option_copied};
 ghost use Rattle.script_read.specs.Meaning.{IsScript};
 ghost use Rattle.session_run.specs.Own.{fresh_own};
 ghost use Rattle.session_run.specs.Turns.{worked};
 ghost use Rattle.session_run.specs.Ran.{IsAtWork};
-ghost use Rattle.pgx_shell.specs.Opening.{opened};
+ghost use Rattle.pgx_shell.specs.Opening.{names_of, opened_names};
 ghost use Rattle.pgx_shell.specs.Run.{IsRunOf, only_block, HasRun};
 
 use actor_records::walk_records;
@@ -26,7 +26,7 @@ pub(crate) fn run_script<R: Threads + Sync>(
     workers: u32,
 ) -> Result<List<Record>, NoMemory>
     requires script { IsScript script.now }
-    requires opened { opened script.now.sources ≡ Ok sources }
+    requires names { opened_names sources ≡ names_of script.now.sources }
     ensures { IfOk result (λ J. IsRunOf script.now sources J) }
 {
     let mut alone = Alone::new(alloc, sources)?;

@@ -1,13 +1,13 @@
 //! Why a command stops.
 ghost use Rattle.std.specs.Prelude.{◌≡◌};
 
-use column_types::NoMemory;
-use graph_model::ApplyFault;
+use column_types::{NoMemory, Text};
+use graph_config::ConfigFault;
 use script_read::LineWhy;
 use thiserror::Error;
 
 /// Why a command did not write its whole text. Its cause is told by `StopCause`, and what was written by `StopWrites`.
-#[derive(Clone, Copy, Debug, PartialEq, Eq, Error)]
+#[derive(Debug, Drop, PartialEq, Eq, Error)]
 pub enum Stop {
     /// The script has more than 16,777,216 bytes.
     #[error("the script is longer than 16,777,216 bytes")]
@@ -15,9 +15,16 @@ pub enum Stop {
     /// The first line of the script that is at fault, counted from 1, and its first fault.
     #[error("a line of the script has a fault")]
     BadLine { line: u64, why: LineWhy },
-    /// The lines of a source stand for no graph.
-    #[error("a source stands for no graph")]
-    BadSource,
+    /// A configuration's file or a table's file is missing.
+    #[error("no file {}", name.as_str())]
+    NoFile { name: Text },
+    /// The file of this name holds no configuration. The fault has a number; it is never want of memory.
+    #[error("{}: {fault}", file.as_str())]
+    BadConfig { file: Text, fault: ConfigFault },
+    /// The first record at fault, counted from 1 in its file, and the number of its first fault. The lines of an inline
+    /// source S are the records of the files `S.V` and `S.E`.
+    #[error("{}: refused {number} at record {row}", file.as_str())]
+    BadTable { file: Text, row: u64, number: u32 },
     /// The source or the library failed, and its count of faults rose in this call.
     #[error("the script or a file could not be read")]
     ReadFault,
@@ -35,19 +42,5 @@ impl From<NoMemory> for Stop {
 
     fn from(_error: NoMemory) -> Stop {
         Stop::NoMemory
-    }
-}
-
-/// A line of a source that does not fit the lines before it.
-impl From<ApplyFault> for Stop {
-    ghost use Rattle.pgx_shell.specs.Fault.{stop_of};
-
-    ghost from_gives = { λ fault stop. stop ≡ stop_of fault };
-
-    fn from(fault: ApplyFault) -> Stop {
-        match fault {
-            ApplyFault::Misfit(_) => Stop::BadSource,
-            ApplyFault::NoMemory => Stop::NoMemory,
-        }
     }
 }

@@ -1,7 +1,7 @@
 //! The worked rows, and scripts at the edge of the grammar with their statuses.
 use crate::{Status, top};
-use column_types::List;
-use pgx_io::{MemSink, MemSource, OpenGate, SureLibrary};
+use column_types::{List, Text};
+use pgx_io::{MemLibrary, MemSink, MemSource, OpenGate, SureLibrary};
 use std::alloc::Global;
 use std::test::Fail;
 use std::thread::Threads;
@@ -12,6 +12,26 @@ const SHOW_S: &str =
 const ROWS_OF_S: &str =
     "[0.1 a] show s\n  ok 2 3\n  v V 1\n  v V 2\n  e E 10 1 2\n  e E 11 1 2\n  e E 12 2 2\n  out V 1: 10 11\n  in V 1:\n  out V 2: 12\n  in V 2: 10 11 12\n";
 
+const SHOW_FILES: &str = "source s config g.json\nphase\nactor a\nshow s\n";
+
+const CONFIG: &str =
+    "{\"vertex_providers\":[{\"name\":\"Person\",\"file\":\"p.csv\",\"props\":[{\"name\":\"age\",\"type\":\"integer\"}]}],\"edge_providers\":[{\"name\":\"knows\",\"file\":\"k.csv\",\"source_vertex_provider\":\"Person\",\"destination_vertex_provider\":\"Person\"}]}";
+
+const PEOPLE: &str = "1,30\n2,41\n3,\n";
+
+const KNOWS: &str = "10,1,2\n11,2,3\n";
+
+/// Words as the program gets them.
+fn words_of(alloc: Global, words: &str) -> Result<Vec<String>, Fail> {
+    let mut owned = Vec::new(alloc);
+    if !words.is_empty() {
+        for word in words.split(' ') {
+            owned.push(String::from_str(alloc, word)?)?;
+        }
+    }
+    Ok(owned)
+}
+
 /// Runs the words over a script in memory, read in pieces of 7 bytes and written in pieces of 10, whose listed calls fail.
 fn run<R: Threads + Sync>(
     rt: &R,
@@ -21,12 +41,7 @@ fn run<R: Threads + Sync>(
     source_fails: &[u32],
     sink_fails: &[u32],
 ) -> Result<(Status, MemSink), Fail> {
-    let mut owned = Vec::new(alloc);
-    if !words.is_empty() {
-        for word in words.split(' ') {
-            owned.push(String::from_str(alloc, word)?)?;
-        }
-    }
+    let owned = words_of(alloc, words)?;
     let bytes = List::from_slice(alloc, script.as_bytes())?;
     let mut source = MemSource::new(bytes, 7, List::from_slice(alloc, source_fails)?);
     let mut library = SureLibrary::new(List::new(alloc));
@@ -41,6 +56,44 @@ fn run<R: Threads + Sync>(
         &OpenGate,
     );
     Ok((status, sink))
+}
+
+/// Files in memory, of which the look-ups of these numbers fail.
+fn library(alloc: Global, files: &[(&str, &str)], fails: &[u32]) -> Result<MemLibrary, Fail> {
+    let mut listed = List::new(alloc);
+    for (name, text) in files {
+        listed.push((
+            Text::from_str(alloc, name)?,
+            List::from_slice(alloc, text.as_bytes())?,
+        ))?;
+    }
+    Ok(MemLibrary::new(listed, List::from_slice(alloc, fails)?))
+}
+
+/// Whether a word ends with this status and text over a script and these files, of which the look-ups of these numbers fail.
+fn ends_over<R: Threads + Sync>(
+    rt: &R,
+    alloc: Global,
+    word: &str,
+    script: &str,
+    mut library: MemLibrary,
+    code: u8,
+    text: &str,
+) -> Result<bool, Fail> {
+    let owned = words_of(alloc, word)?;
+    let bytes = List::from_slice(alloc, script.as_bytes())?;
+    let mut source = MemSource::new(bytes, 7, List::new(alloc));
+    let mut sink = MemSink::new(alloc, 1000, 10, List::new(alloc))?;
+    let status = top(
+        rt,
+        alloc,
+        owned.as_slice(),
+        &mut source,
+        &mut library,
+        &mut sink,
+        &OpenGate,
+    );
+    Ok(status.code == code && sink.bytes() == text.as_bytes())
 }
 
 /// Whether the words end with this status and text over a script, where no call fails.
@@ -232,38 +285,173 @@ fn lines_at_fault_are_named(rt: HostRuntime) -> Result<(), Fail> {
 }
 
 #[test]
-fn lines_that_stand_for_no_graph(rt: HostRuntime) -> Result<(), Fail> {
+fn inline_key_twice(rt: HostRuntime) -> Result<(), Fail> {
+    let script =
+        "source s inline\nv 1\nv 1\ne 10 1 2\ne 11 1 2\ne 12 2 2\nend\nphase\nactor a\nshow s\n";
+    let line = "error table s.V record 2 fault 11 KeyTwice\n";
+    assert!(rt; ends(&rt, rt.alloc(), "once", script, 4, line)?);
+    assert!(rt; ends(&rt, rt.alloc(), "check", script, 4, line)?);
+    Ok(())
+}
+
+#[test]
+fn edge_lines_name_their_record(rt: HostRuntime) -> Result<(), Fail> {
+    let twice = "source s inline\nv 1\ne 1 1 1\ne 1 1 1\nend\n";
+    let line = "error table s.E record 2 fault 11 KeyTwice\n";
+    assert!(rt; ends(&rt, rt.alloc(), "once", twice, 4, line)?);
+    let missing = "source s inline\nv 1\ne 1 1 2\nend\n";
+    let line = "error table s.E record 1 fault 12 MissingEnd\n";
+    assert!(rt; ends(&rt, rt.alloc(), "once", missing, 4, line)?);
+    Ok(())
+}
+
+#[test]
+fn check_counts_the_script(rt: HostRuntime) -> Result<(), Fail> {
+    assert!(rt; ends(&rt, rt.alloc(), "check", SHOW_S, 0, "ok 1 1 1\n")?);
+    assert!(rt; ends(&rt, rt.alloc(), "check", "", 0, "ok 0 0 0\n")?);
+    assert!(rt; ends(&rt, rt.alloc(), "check x", SHOW_S, 2, "usage 1\n")?);
+    let bad = "error line 1 fault 47 word\n";
+    assert!(rt; ends(&rt, rt.alloc(), "check", "show s\n", 3, bad)?);
+    Ok(())
+}
+
+#[test]
+fn place_lists_seven_columns(rt: HostRuntime) -> Result<(), Fail> {
     let alloc = rt.alloc();
-    let (stop, line) = (4, "error source\n");
+    let script = "source s config g.json\nphase\nactor alice\nopen\nload g from s\ncolumns\n";
+    let text =
+        "[1 alice] open\n  ok\n[2 alice] peek s\n  ok front 0\n[3 alice] place g from s at 0\n  ok sid 1\n[4 alice] columns\n  ok 1 2 3 4 5 6 7\n";
+    let files = [("g.json", CONFIG), ("p.csv", PEOPLE), ("k.csv", KNOWS)];
     assert!(rt;
-        ends(
+        ends_over(
             &rt,
             alloc,
             "once",
-            "source s inline\nv 1\nv 1\nend\n",
-            stop,
-            line
+            script,
+            library(alloc, &files, &[])?,
+            0,
+            text
         )?
     );
+    let counts = "ok 1 1 3\n";
     assert!(rt;
-        ends(
+        ends_over(
+            &rt,
+            alloc,
+            "check",
+            script,
+            library(alloc, &files, &[])?,
+            0,
+            counts
+        )?
+    );
+    Ok(())
+}
+
+/// Whether `once` and `check` both end with this error line and status 4 over these files.
+fn both_refuse<R: Threads + Sync>(
+    rt: &R,
+    alloc: Global,
+    files: &[(&str, &str)],
+    line: &str,
+) -> Result<bool, Fail> {
+    let once = ends_over(
+        rt,
+        alloc,
+        "once",
+        SHOW_FILES,
+        library(alloc, files, &[])?,
+        4,
+        line,
+    )?;
+    let check = ends_over(
+        rt,
+        alloc,
+        "check",
+        SHOW_FILES,
+        library(alloc, files, &[])?,
+        4,
+        line,
+    )?;
+    Ok(once && check)
+}
+
+#[test]
+fn faulty_files_name_their_place(rt: HostRuntime) -> Result<(), Fail> {
+    let alloc = rt.alloc();
+    let files = [
+        ("g.json", CONFIG),
+        ("p.csv", PEOPLE),
+        ("k.csv", "10,1,2\n11,2,9\n"),
+    ];
+    let line = "error table k.csv record 2 fault 12 MissingEnd\n";
+    assert!(rt; both_refuse(&rt, alloc, &files, line)?);
+    let files = [
+        ("g.json", CONFIG),
+        ("p.csv", "1,2147483648\n2,41\n3,\n"),
+        ("k.csv", KNOWS),
+    ];
+    let line = "error table p.csv record 1 fault 10 BadCell\n";
+    assert!(rt; both_refuse(&rt, alloc, &files, line)?);
+    let files = [("g.json", ""), ("p.csv", PEOPLE), ("k.csv", KNOWS)];
+    let line = "error config g.json fault 3 NotJson\n";
+    assert!(rt; both_refuse(&rt, alloc, &files, line)?);
+    let files = [("g.json", CONFIG), ("p.csv", PEOPLE)];
+    assert!(rt; both_refuse(&rt, alloc, &files, "error no file k.csv\n")?);
+    Ok(())
+}
+
+#[test]
+fn a_faulty_configuration_names_its_path(rt: HostRuntime) -> Result<(), Fail> {
+    let alloc = rt.alloc();
+    let config =
+        "{\"vertex_providers\":[{\"name\":\"Person\",\"file\":\"p.csv\",\"props\":[{\"name\":\"age\",\"type\":\"float\"}]}],\"edge_providers\":[]}";
+    let line = "error config g.json fault 5 WrongType vertex_providers[0].props[0].type\n";
+    assert!(rt; both_refuse(&rt, alloc, &[("g.json", config)], line)?);
+    Ok(())
+}
+
+#[test]
+fn missing_files_are_told_in_their_order(rt: HostRuntime) -> Result<(), Fail> {
+    let alloc = rt.alloc();
+    assert!(rt; both_refuse(&rt, alloc, &[], "error no file g.json\n")?);
+    let files = [("g.json", CONFIG), ("p.csv", "no record of a person\n")];
+    assert!(rt; both_refuse(&rt, alloc, &files, "error no file k.csv\n")?);
+    Ok(())
+}
+
+#[test]
+fn line_feeds_in_quotes_and_a_last_record_without_one(rt: HostRuntime) -> Result<(), Fail> {
+    let alloc = rt.alloc();
+    let config =
+        "{\"vertex_providers\":[{\"name\":\"Person\",\"file\":\"p.csv\",\"props\":[{\"name\":\"name\",\"type\":\"string\"}]}],\"edge_providers\":[]}";
+    let files = [("g.json", config), ("p.csv", "1,\"a\nb\"\n2,x")];
+    let text =
+        "[0.1 a] show s\n  ok 2 0\n  v Person 1 'a\\nb'\n  v Person 2 'x'\n  out Person 1:\n  in Person 1:\n  out Person 2:\n  in Person 2:\n";
+    assert!(rt;
+        ends_over(
             &rt,
             alloc,
             "once",
-            "source s inline\nv 1\ne 1 1 1\ne 1 1 1\nend\n",
-            stop,
-            line
+            SHOW_FILES,
+            library(alloc, &files, &[])?,
+            0,
+            text
         )?
     );
-    assert!(rt;
-        ends(
-            &rt,
-            alloc,
-            "once",
-            "source s inline\nv 1\ne 1 1 2\nend\n",
-            stop,
-            line
-        )?
-    );
+    Ok(())
+}
+
+#[test]
+fn failing_library(rt: HostRuntime) -> Result<(), Fail> {
+    let alloc = rt.alloc();
+    let files = [("g.json", CONFIG), ("p.csv", PEOPLE), ("k.csv", KNOWS)];
+    let line = "error read fault\n";
+    for call in [1, 2, 3] {
+        let once = library(alloc, &files, &[call])?;
+        assert!(rt; ends_over(&rt, alloc, "once", SHOW_FILES, once, 6, line)?);
+        let check = library(alloc, &files, &[call])?;
+        assert!(rt; ends_over(&rt, alloc, "check", SHOW_FILES, check, 6, line)?);
+    }
     Ok(())
 }

@@ -6,6 +6,7 @@ ghost use Rattle.pgx_shell.specs.Words.{form_of, action_of as asked_by, usage_pl
 #[derive(Clone, Copy, Debug, PartialEq, Eq)]
 pub enum Action {
     Once,
+    Check,
 }
 
 /// The form that the words are, or the place of the first word with which they begin none.
@@ -32,6 +33,9 @@ fn action_of(word: &str) -> Option<Action>
 {
     if word == "once" {
         return Some(Action::Once);
+    }
+    if word == "check" {
+        return Some(Action::Check);
     }
     None
 }

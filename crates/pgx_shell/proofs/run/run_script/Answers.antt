@@ -5,7 +5,7 @@ use Rattle.pgx_shell.proofs.Scripts.{idle_run, block_run}
 use Rattle.pgx_shell.proofs.run.run_script.Goals as goal
 
 pub new-requires : goal.new-requires
-new-requires g c = names_differ c.args.script.now.sources c.args.sources c.requires.script.distinct c.requires.opened
+new-requires g c = names_differ c.args.script.now.sources c.args.sources c.requires.script.distinct c.requires.names
 
 pub returns-in_default : goal.returns-in_default
 returns-in_default g c =

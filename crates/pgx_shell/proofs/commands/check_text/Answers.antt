@@ -1,0 +1,16 @@
+use Rattle.std.proofs.Common.{ap, None}
+use Rattle.pgx_shell.proofs.Dues.{opens_due}
+use Rattle.pgx_shell.proofs.FewCommands.{few_commands}
+use Rattle.pgx_shell.proofs.commands.check_text.Goals as goal
+
+pub counts_text-requires : goal.counts_text-requires
+counts_text-requires g c = few_commands c.in_ok-script.script c.in_ok-script.ensures.script
+
+pub returns-clause-text : goal.returns-clause-text
+returns-clause-text g c = record {
+  script = c.in_ok-script.script;
+  reads = c.in_ok-script.ensures.ok;
+  opens = opens_due (g.S.Source.rest c.args.src.now) (g.L.Library.files c.args.lib.now) c.in_ok-script.script c.in_ok-script.ensures.ok
+      (rw c.as_slice.ensures at c.in_ok-check_sources.ensures.ok);
+  is = ap (λ text. record { text = text; book = None }) c.in_ok-counts_text.ensures;
+}

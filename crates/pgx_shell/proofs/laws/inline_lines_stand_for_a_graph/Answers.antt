@@ -1,5 +1,0 @@
-use Rattle.pgx_shell.proofs.Lines.{lines_stand}
-use Rattle.pgx_shell.proofs.laws.inline_lines_stand_for_a_graph.Goals as goal
-
-pub returns : goal.returns
-returns c = lines_stand
