@@ -1,0 +1,6 @@
+pub mod Bytes
+pub mod Spelling
+pub mod Tokens
+pub mod Standing
+pub mod Spans
+pub mod Answer
