@@ -1,0 +1,4 @@
+pub mod Relaxing
+pub mod Entries
+pub mod Searching
+pub mod Causes
