@@ -1,4 +1,0 @@
-pub mod Relaxing
-pub mod Entries
-pub mod Searching
-pub mod Causes

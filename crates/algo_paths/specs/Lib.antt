@@ -1,4 +1,0 @@
-pub mod Search
-pub mod Weights
-pub mod Answer
-pub mod Reading

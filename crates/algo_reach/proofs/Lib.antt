@@ -1,4 +1,0 @@
-pub mod Marking
-pub mod Walking
-pub mod Spreading
-pub mod LeastLabels

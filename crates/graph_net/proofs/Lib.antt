@@ -1,4 +1,0 @@
-pub mod Orders
-pub mod Edges
-pub mod Rows
-pub mod Flats
