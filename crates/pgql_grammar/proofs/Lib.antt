@@ -1,0 +1,13 @@
+pub mod Good
+pub mod Agree
+pub mod Takes
+pub mod Sets
+pub mod Fitting
+pub mod LanguageLaws
+pub mod Forms
+pub mod ExpressionFits
+pub mod EdgeForms
+pub mod ClauseFits
+pub mod Ends
+pub mod Theorem
+pub mod TextLaws

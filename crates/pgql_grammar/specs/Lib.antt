@@ -1,0 +1,11 @@
+pub mod Sorts
+pub mod Language
+pub mod Expression
+pub mod Clauses
+pub mod Faults
+pub mod Reading
+pub mod ExpressionReader
+pub mod QueryReader
+pub mod Pieces
+pub mod Limits
+pub mod Meaning
