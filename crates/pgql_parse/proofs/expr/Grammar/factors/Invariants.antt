@@ -1,0 +1,9 @@
+use Rattle.std.proofs.Common.{◌≡◌, ◌-◌}
+use Rattle.pgql_grammar.specs.Reading.{turns, all}
+use Rattle.pgql_parse.specs.Front.{front}
+use Rattle.pgql_grammar.specs.Sorts.{is_multiplication}
+use Rattle.pgql_grammar.specs.ExpressionReader as rule
+use Rattle.pgql_parse.proofs.expr.Grammar.factors.Given as goal
+
+abbrev pub invariant-loop-turn : goal.invariant-loop-turn
+invariant-loop-turn g l = all is_multiplication (rule.factor (rule.nested l.self.depth)) l.fn.rest ≡ front l.found (turns (l.most - l._turn) is_multiplication (rule.factor (rule.nested l.self.depth)) l.rest)

@@ -1,0 +1,10 @@
+use Rattle.std.proofs.Common.{◌≡◌, ◌-◌}
+use Rattle.pgql_grammar.specs.declared.piece.Sym.TheVariants as s
+use Rattle.pgql_grammar.specs.Reading.{turns, separated}
+use Rattle.pgql_grammar.specs.Sorts.{is}
+use Rattle.pgql_grammar.specs.QueryReader as rule
+use Rattle.pgql_parse.specs.Front.{front}
+use Rattle.pgql_parse.proofs.patterns.pattern_list.Given as goal
+
+abbrev pub invariant-loop-turn : goal.invariant-loop-turn
+invariant-loop-turn l = separated s.Comma rule.pattern l.fn.rest ≡ front l.found (turns (l.most - l._turn) (is s.Comma) (λ _. rule.pattern) l.rest)
