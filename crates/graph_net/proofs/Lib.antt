@@ -1,0 +1,6 @@
+pub mod Orders
+pub mod Edges
+pub mod Rows
+pub mod Flats
+pub mod Paths
+pub mod Meaning

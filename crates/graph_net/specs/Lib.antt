@@ -1,0 +1,5 @@
+pub mod Net
+pub mod Walks
+pub mod Cores
+pub mod NetOf
+pub mod Flat
