@@ -1,0 +1,34 @@
+//! The call over snapshots.
+ghost use Rattle.std.specs.Prelude.{◌≡◌, ℕ, ◌<◌, ◌≤◌, IfOk, length, slice_index};
+ghost use Rattle.graph_model.specs.Graph.{vertex_total};
+ghost use Rattle.graph_net.specs.Cores.{IsCoreNumber};
+ghost use Rattle.graph_net.specs.NetOf.{net_of};
+
+use crate::cores::net_core_numbers;
+use column_types::{List, NoMemory};
+use graph_net::{FlatNet, VertexOrder};
+use graph_snap::Snapshot;
+use std::alloc::Global;
+use std::thread::Threads;
+
+/// For each vertex its core number: the greatest k such that it lies in a set of vertices each of which has at least k edge ends
+/// inside the set. A loop has two ends, parallel edges count each, and edges of all tables count alike.
+///
+/// The list has an entry for each vertex of the graph, by index: table by table, and in a table by places. It does not depend
+/// on `workers`, the number of threads, from 1 to 64. The work and the memory are in proportion to vertices and edges. Want of
+/// memory is the only error.
+pub fn core_numbers<R: Threads + Sync>(
+    rt: &R,
+    alloc: Global,
+    on: &Snapshot,
+    workers: u32,
+) -> Result<List<u64>, NoMemory>
+    requires workers { (1 ≤ workers) × (workers ≤ 64) }
+    ensures len { IfOk result (λ cores. length cores ≡ vertex_total on.now) }
+    ensures each { IfOk result (λ cores. (v : ℕ) → v < vertex_total on.now → IsCoreNumber (net_of on.now) v (slice_index cores v)) }
+{
+    let order = VertexOrder::new(alloc, on)?;
+    let net = FlatNet::build(rt, alloc, on, &order)?;
+    let cores = net_core_numbers(rt, alloc, &net, workers)?;
+    Ok(cores)
+}

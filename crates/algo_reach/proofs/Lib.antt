@@ -1,0 +1,4 @@
+pub mod Marking
+pub mod Walking
+pub mod Spreading
+pub mod LeastLabels
