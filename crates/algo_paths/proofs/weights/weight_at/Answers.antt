@@ -1,0 +1,20 @@
+use Rattle.std.proofs.Common.{◌≤◌, ◌<◌, ◌∙◌, ap, sym, length, arith, rules}
+use Rattle.graph_model.specs.Graph.{edge_props_at}
+use Rattle.algo_paths.specs.Weights.{weight_of_value}
+use Rattle.algo_paths.proofs.Told.{null_past, value_read, few_props}
+use Rattle.algo_paths.proofs.weights.weight_at.Goals as goal
+
+pub returns-then-prop-table_props-clause-value : goal.returns-then-prop-table_props-clause-value
+returns-then-prop-table_props-clause-value c = λ r at.
+    let g = c.args.on.now in
+    let past : length (edge_props_at g.schema c.args.at.table) ≤ c.args.prop = omega (arith, ap length c.table_props.ensures, c.if-prop-table_props.true) in
+    sym (ap weight_of_value (null_past g c.args.at.table c.args.at.place r at c.args.prop c.sound.ensures c.requires.table past))
+
+pub overflow_cast-prop : goal.overflow_cast-prop
+overflow_cast-prop c =
+    let small : c.args.prop < 64 = omega (arith, ap length c.table_props.ensures, c.if-prop-table_props.false, few_props c.args.on.now c.args.at.table c.sound.ensures c.requires.table) in
+    search rules
+
+pub returns-clause-value : goal.returns-clause-value
+returns-clause-value c = λ r at.
+    c.weight_of.ensures.value ∙ ap weight_of_value (sym (value_read c.args.on.now c.args.at.table c.args.at.place r at c.args.prop _ c.edge_value.ensures))

@@ -1,0 +1,4 @@
+pub mod Search
+pub mod Weights
+pub mod Answer
+pub mod Reading

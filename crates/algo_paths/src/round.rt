@@ -1,0 +1,118 @@
+//! Relaxing all edges by one round over all vertices.
+ghost use Rattle.std.specs.Prelude.{◌≡◌, ◌⊎◌, ℕ, ◌+◌, ◌*◌, ◌<◌, ◌≤◌, ◌^◌, ◌-◌, IfOk, OnOk, List as Items, All, Contains, [], length, sum, slice_index};
+ghost use Rattle.std.specs.BinaryHeap.{heap_items};
+ghost use Rattle.algo_paths.specs.Search.{entry_of, IsProgress, IsNextBest};
+
+use crate::queue::enqueue;
+use column_types::{List, NoMemory};
+use graph_net::FlatNet;
+use par_rounds::round;
+use std::alloc::Global;
+use std::collections::BinaryHeap;
+use std::thread::Threads;
+
+/// Relaxes all vertices, so those of any wave.
+pub(crate) fn wide_wave<R: Threads + Sync>(
+    rt: &R,
+    alloc: Global,
+    net: &FlatNet,
+    weights: &[u64],
+    best: &mut List<u64>,
+    queue: &mut BinaryHeap<(u64, u32)>,
+    workers: u32,
+) -> Result<(), NoMemory>
+    requires weights { length weights.now ≡ length net.now.edges }
+    requires fit { All (λ w. w < 2 ^ 63) weights.now }
+    requires long { length best.old ≡ net.now.vertices }
+    requires low { (v : ℕ) → slice_index best.old v ≤ 2 ^ 63 }
+    requires workers { (1 ≤ workers) × (workers ≤ 64) }
+    ensures { OnOk result ((wave : Items ℕ) → IsProgress net.now weights.now wave [] best.old best.new (heap_items queue.old) (heap_items queue.new)) }
+{
+    let next = weight_round(rt, alloc, net, weights, best.as_slice(), workers)?;
+    queue_better(queue, net.vertex_count(), best.as_slice(), next.as_slice())?;
+    *best = next;
+    Ok(())
+}
+
+/// Queues the vertices that have a better weight than before.
+fn queue_better(
+    queue: &mut BinaryHeap<(u64, u32)>,
+    n: u32,
+    old: &[u64],
+    new: &[u64],
+) -> Result<(), NoMemory>
+    requires old { length old.now ≡ n }
+    requires new { length new.now ≡ n }
+    requires low { (v : ℕ) → slice_index new.now v ≤ 2 ^ 63 }
+    requires lower { (v : ℕ) → slice_index new.now v ≤ slice_index old.now v }
+    ensures better { OnOk result ((v : ℕ) → slice_index new.now v < slice_index old.now v → Contains (heap_items queue.new) (entry_of new.now v)) }
+    ensures queued { OnOk result ((x : ℕ × ℕ) → Contains (heap_items queue.new) x → Contains (heap_items queue.old) x ⊎ (x.1 < n)) }
+    ensures work { OnOk result (2 * sum new.now + length (heap_items queue.new) ≤ 2 * sum old.now + length (heap_items queue.old)) }
+{
+    for v in 0..n {
+        queue_one(queue, v, old[v as usize], new[v as usize])?;
+    }
+    Ok(())
+}
+
+/// Queues a vertex, where its weight is better than before.
+fn queue_one(queue: &mut BinaryHeap<(u64, u32)>, v: u32, old: u64, new: u64) -> Result<(), NoMemory>
+    requires low { new ≤ 2 ^ 63 }
+    requires lower { new ≤ old }
+    ensures better { OnOk result (new < old → Contains (heap_items queue.new) (2 ^ 63 - new, v)) }
+    ensures stays { OnOk result ((x : ℕ × ℕ) → Contains (heap_items queue.old) x → Contains (heap_items queue.new) x) }
+    ensures queued { OnOk result ((x : ℕ × ℕ) → Contains (heap_items queue.new) x → Contains (heap_items queue.old) x ⊎ (x.1 ≡ v)) }
+    ensures work { OnOk result (2 * new + length (heap_items queue.new) ≤ 2 * old + length (heap_items queue.old)) }
+{
+    if old <= new {
+        return Ok(());
+    }
+    enqueue(queue, v, new)?;
+    Ok(())
+}
+
+fn weight_round<R: Threads + Sync>(
+    rt: &R,
+    alloc: Global,
+    net: &FlatNet,
+    weights: &[u64],
+    best: &[u64],
+    workers: u32,
+) -> Result<List<u64>, NoMemory>
+    requires weights { length weights.now ≡ length net.now.edges }
+    requires fit { All (λ w. w < 2 ^ 63) weights.now }
+    requires long { length best.now ≡ net.now.vertices }
+    requires low { (v : ℕ) → slice_index best.now v ≤ 2 ^ 63 }
+    requires workers { (1 ≤ workers) × (workers ≤ 64) }
+    ensures len { IfOk result (λ next. length next ≡ net.now.vertices) }
+    ensures each { IfOk result (λ next. (v : ℕ) → v < net.now.vertices → IsNextBest net.now weights.now best.now v (slice_index next v)) }
+{
+    round(
+        rt,
+        alloc,
+        workers,
+        net.vertex_count(),
+        |v: u32| -> u64
+            requires { (v < net.now.vertices) × (length weights.now ≡ length net.now.edges) × (All (λ w. w < 2 ^ 63) weights.now)
+                × (length best.now ≡ net.now.vertices) × ((u : ℕ) → slice_index best.now u ≤ 2 ^ 63) }
+            ensures { IsNextBest net.entry.now weights.entry.now best.entry.now v result }
+        { next_best(net, weights, best, v) },
+    )
+}
+
+/// The least of a vertex's weight and those by way of the edges that enter it.
+fn next_best(net: &FlatNet, weights: &[u64], best: &[u64], v: u32) -> u64
+    requires vertex { v < net.now.vertices }
+    requires weights { length weights.now ≡ length net.now.edges }
+    requires fit { All (λ w. w < 2 ^ 63) weights.now }
+    requires long { length best.now ≡ net.now.vertices }
+    requires low { (u : ℕ) → slice_index best.now u ≤ 2 ^ 63 }
+    ensures { IsNextBest net.now weights.now best.now v result }
+{
+    let mut least = best[v as usize];
+    for edge in net.in_row(v) {
+        let source = net.source(*edge);
+        least = least.min(best[source as usize] + weights[*edge as usize]);
+    }
+    least
+}

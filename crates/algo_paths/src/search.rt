@@ -1,0 +1,109 @@
+//! Least weights over a net.
+ghost use Rattle.std.specs.Prelude.{◌≡◌, ℕ, ◌+◌, ◌*◌, ◌<◌, ◌≤◌, ◌^◌, IfOk, OnOk, All, Contains, None, [], length, slice_index, slice_index_or, replicate};
+ghost use Rattle.std.specs.BinaryHeap.{heap_items};
+ghost use Rattle.graph_net.specs.Walks.{IsLeastWeight};
+ghost use Rattle.algo_paths.specs.Search.{IsProgress, IsTold};
+
+use crate::queue::{enqueue, next_wave};
+use crate::relax::narrow_wave;
+use crate::round::wide_wave;
+use column_types::{List, NoMemory};
+use graph_net::{FlatNet, is_wide};
+use std::alloc::Global;
+use std::collections::BinaryHeap;
+use std::thread::Threads;
+
+/// Above each weight that is told.
+pub(crate) const FAR: u64 = 9_223_372_036_854_775_808;
+
+/// For each vertex the least weight of a walk to it from the vertex `from`, where one is below 2 ^ 63. The weights are those of the edges, in order.
+pub(crate) fn net_least_weights<R: Threads + Sync>(
+    rt: &R,
+    alloc: Global,
+    net: &FlatNet,
+    weights: &[u64],
+    from: u32,
+    workers: u32,
+) -> Result<List<Option<i64>>, NoMemory>
+    requires from { from < net.now.vertices }
+    requires weights { length weights.now ≡ length net.now.edges }
+    requires fit { All (λ w. w < 2 ^ 63) weights.now }
+    requires workers { (1 ≤ workers) × (workers ≤ 64) }
+    ensures len { IfOk result (λ found. length found ≡ net.now.vertices) }
+    ensures each { IfOk result (λ found. (v : ℕ) → v < net.now.vertices
+        → IsLeastWeight net.now weights.now from v (slice_index_or found v None)) }
+{
+    let mut best = no_weights(alloc, net.vertex_count())?;
+    best.set(from as usize, 0);
+    let mut queue = BinaryHeap::new(alloc);
+    enqueue(&mut queue, from, 0)?;
+    'waves: while !queue.is_empty() {
+        let wave = next_wave(alloc, &mut queue, best.as_slice())?;
+        relax_wave(
+            rt,
+            alloc,
+            net,
+            weights,
+            &mut best,
+            &mut queue,
+            wave.as_slice(),
+            workers,
+        )?;
+    }
+    let found = told(alloc, best.as_slice())?;
+    Ok(found)
+}
+
+/// No weight yet for each of `n` vertices.
+fn no_weights(alloc: Global, n: u32) -> Result<List<u64>, NoMemory>
+    ensures { IfOk result (λ best. best ≡ replicate n 9223372036854775808) }
+{
+    let best = vec![in alloc; FAR; n as usize]?;
+    Ok(List::from_vec(best))
+}
+
+/// Relaxes the vertices of a wave.
+fn relax_wave<R: Threads + Sync>(
+    rt: &R,
+    alloc: Global,
+    net: &FlatNet,
+    weights: &[u64],
+    best: &mut List<u64>,
+    queue: &mut BinaryHeap<(u64, u32)>,
+    wave: &[u32],
+    workers: u32,
+) -> Result<(), NoMemory>
+    requires weights { length weights.now ≡ length net.now.edges }
+    requires fit { All (λ w. w < 2 ^ 63) weights.now }
+    requires long { length best.old ≡ net.now.vertices }
+    requires low { (v : ℕ) → slice_index best.old v ≤ 2 ^ 63 }
+    requires wave { (v : ℕ) → Contains wave.now v → v < net.now.vertices }
+    requires workers { (1 ≤ workers) × (workers ≤ 64) }
+    ensures { OnOk result (IsProgress net.now weights.now wave.now [] best.old best.new (heap_items queue.old) (heap_items queue.new)) }
+{
+    if is_wide(workers, wave.len(), net.vertex_count()) {
+        return wide_wave(rt, alloc, net, weights, best, queue, workers);
+    }
+    narrow_wave(net, weights, best, queue, wave)
+}
+
+/// The weights that are below the limit.
+fn told(alloc: Global, best: &[u64]) -> Result<List<Option<i64>>, NoMemory>
+    ensures len { IfOk result (λ found. length found ≡ length best.now) }
+    ensures each { IfOk result (λ found. (v : ℕ) → v < length best.now → IsTold (slice_index best.now v) (slice_index_or found v None)) }
+{
+    let mut found = List::new(alloc);
+    for weight in best {
+        found.push(tell(*weight))?;
+    }
+    Ok(found)
+}
+
+fn tell(weight: u64) -> Option<i64>
+    ensures { IsTold weight result }
+{
+    if weight < FAR {
+        return Some(weight as i64);
+    }
+    None
+}
