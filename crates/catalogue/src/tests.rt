@@ -53,8 +53,30 @@ fn catalogue<L: Ledger>(
     Catalogue::new(alloc, sources)
 }
 
+/// What a reply says, in short.
+#[derive(Clone, Copy, Debug, PartialEq, Eq)]
+enum Said {
+    Done,
+    Front(u64),
+    Sid(u64),
+    SessionsFull,
+    GraphsFull,
+    Other,
+}
+
+fn in_short(reply: &Reply) -> Said {
+    match reply {
+        Reply::Done => Said::Done,
+        Reply::Front(front) => Said::Front(*front),
+        Reply::Sid(sid) => Said::Sid(*sid),
+        Reply::Refused(Refusal::SessionsFull) => Said::SessionsFull,
+        Reply::Refused(Refusal::GraphsFull) => Said::GraphsFull,
+        _ => Said::Other,
+    }
+}
+
 /// Makes a call, while there are numbers left.
-fn ask<L: Ledger>(
+fn serve<L: Ledger>(
     catalogue: &mut Catalogue,
     alloc: Global,
     who: u32,
@@ -71,39 +93,100 @@ fn ask<L: Ledger>(
     catalogue.serve(alloc, who, call, steps)
 }
 
-fn peek(alloc: Global, source: &str) -> Result<Ask, NoMemory> {
-    Ok(Ask::Peek {
-        source: Text::from_str(alloc, source)?,
-    })
+/// Makes a call, and tells what its reply says.
+fn ask<L: Ledger>(
+    catalogue: &mut Catalogue,
+    alloc: Global,
+    who: u32,
+    ask: Ask,
+    steps: &mut Steps<L>,
+) -> Result<Said, NoMemory> {
+    let served = serve(catalogue, alloc, who, ask, steps)?;
+    Ok(in_short(&served.reply))
 }
 
-fn place(alloc: Global, name: &str, source: &str, front: u64) -> Result<Ask, NoMemory> {
+/// Session 1 looks at a source. Whether that hands out the source at front 0.
+fn peek<L: Ledger>(
+    catalogue: &mut Catalogue,
+    alloc: Global,
+    source: &str,
+    steps: &mut Steps<L>,
+) -> Result<bool, NoMemory> {
+    let source = Text::from_str(alloc, source)?;
+    let served = serve(catalogue, alloc, 1, Ask::Peek { source }, steps)?;
+    Ok(in_short(&served.reply) == Said::Front(0) && matches!(served.gift, Gift::Source(_)))
+}
+
+fn place_call(alloc: Global, name: &str, source: &str) -> Result<Ask, NoMemory> {
+    let name = Text::from_str(alloc, name)?;
+    let source = Text::from_str(alloc, source)?;
     Ok(Ask::Place {
-        name: Text::from_str(alloc, name)?,
-        source: Text::from_str(alloc, source)?,
-        front,
+        name,
+        source,
+        front: 0,
     })
 }
 
-fn clone(alloc: Global, name: &str, base: &str) -> Result<Ask, NoMemory> {
+/// Session 1 places a graph. Whether that hands out a snapshot of this id.
+fn place<L: Ledger>(
+    catalogue: &mut Catalogue,
+    alloc: Global,
+    (name, source): (&str, &str),
+    sid: u64,
+    steps: &mut Steps<L>,
+) -> Result<bool, NoMemory> {
+    let call = place_call(alloc, name, source)?;
+    let served = serve(catalogue, alloc, 1, call, steps)?;
+    Ok(in_short(&served.reply) == Said::Sid(sid) && matches!(served.gift, Gift::Snap(_)))
+}
+
+fn clone_call(alloc: Global, name: &str, base: &str) -> Result<Ask, NoMemory> {
+    let name = Text::from_str(alloc, name)?;
+    let base = Text::from_str(alloc, base)?;
     Ok(Ask::Derive {
-        name: Text::from_str(alloc, name)?,
-        base: Text::from_str(alloc, base)?,
+        name,
+        base,
         how: How::Mutate(Mutation::Clone),
     })
 }
 
-fn release(alloc: Global, name: &str) -> Result<Ask, NoMemory> {
-    Ok(Ask::Release {
-        name: Text::from_str(alloc, name)?,
-    })
+fn clone<L: Ledger>(
+    catalogue: &mut Catalogue,
+    alloc: Global,
+    name: &str,
+    base: &str,
+    steps: &mut Steps<L>,
+) -> Result<Said, NoMemory> {
+    let call = clone_call(alloc, name, base)?;
+    ask(catalogue, alloc, 1, call, steps)
 }
 
-fn is_columns(reply: &Reply, columns: &[u64]) -> bool {
-    match reply {
+/// Session 1 releases a graph. Whether that is done, and these columns are still in use.
+fn release<L: Ledger>(
+    catalogue: &mut Catalogue,
+    alloc: Global,
+    name: &str,
+    left: &[u64],
+    steps: &mut Steps<L>,
+) -> Result<bool, NoMemory> {
+    let name = Text::from_str(alloc, name)?;
+    let done = ask(catalogue, alloc, 1, Ask::Release { name }, steps)? == Said::Done;
+    let listed = lists_columns(catalogue, alloc, left, steps)?;
+    Ok(done && listed)
+}
+
+/// Whether these columns are in use.
+fn lists_columns<L: Ledger>(
+    catalogue: &mut Catalogue,
+    alloc: Global,
+    columns: &[u64],
+    steps: &mut Steps<L>,
+) -> Result<bool, NoMemory> {
+    let served = serve(catalogue, alloc, 1, Ask::Columns, steps)?;
+    Ok(match &served.reply {
         Reply::Columns(list) => list.as_slice() == columns,
         _ => false,
-    }
+    })
 }
 
 /// Whether a session loads and clones a graph, and the clone keeps its columns in use until it is released too.
@@ -120,24 +203,14 @@ fn clones<L: Ledger, R: Threads + Sync>(
     let mut steps = Steps::<L>::new(rt, blank);
     let mut desk = catalogue(alloc, graph, &mut steps)?;
     let opened = ask(&mut desk, alloc, 1, Ask::OpenSession, &mut steps)?;
-    let peeked = ask(&mut desk, alloc, 1, peek(alloc, "s")?, &mut steps)?;
-    let placed = ask(&mut desk, alloc, 1, place(alloc, "g", "s", 0)?, &mut steps)?;
-    let cloned = ask(&mut desk, alloc, 1, clone(alloc, "h", "g")?, &mut steps)?;
-    let first = ask(&mut desk, alloc, 1, release(alloc, "g")?, &mut steps)?;
-    let left = ask(&mut desk, alloc, 1, Ask::Columns, &mut steps)?;
-    let second = ask(&mut desk, alloc, 1, release(alloc, "h")?, &mut steps)?;
-    let none = ask(&mut desk, alloc, 1, Ask::Columns, &mut steps)?;
+    let peeked = peek(&mut desk, alloc, "s", &mut steps)?;
+    let placed = place(&mut desk, alloc, ("g", "s"), 1, &mut steps)?;
+    let cloned = clone(&mut desk, alloc, "h", "g", &mut steps)?;
+    let kept = release(&mut desk, alloc, "g", &[1, 2, 3, 4, 5, 6], &mut steps)?;
+    let freed = release(&mut desk, alloc, "h", &[], &mut steps)?;
     let closed = ask(&mut desk, alloc, 1, Ask::CloseSession, &mut steps)?;
-    let done = matches!(opened.reply, Reply::Done)
-        && matches!(first.reply, Reply::Done)
-        && matches!(second.reply, Reply::Done)
-        && matches!(closed.reply, Reply::Done);
-    let handed = matches!(peeked.gift, Gift::Source(_)) && matches!(placed.gift, Gift::Snap(_));
-    let sids = matches!(peeked.reply, Reply::Front(0))
-        && matches!(placed.reply, Reply::Sid(1))
-        && matches!(cloned.reply, Reply::Sid(2));
-    let listed = is_columns(&left.reply, &[1, 2, 3, 4, 5, 6]) && is_columns(&none.reply, &[]);
-    Ok(done && handed && sids && listed)
+    let done = opened == Said::Done && cloned == Said::Sid(2) && closed == Said::Done;
+    Ok(done && peeked && placed && kept && freed)
 }
 
 #[test]
@@ -166,10 +239,10 @@ fn fills_sessions<L: Ledger, R: Threads + Sync>(
     let mut all = true;
     for who in 1..65 {
         let opened = ask(&mut desk, alloc, who, Ask::OpenSession, &mut steps)?;
-        all = all && matches!(opened.reply, Reply::Done);
+        all = all && opened == Said::Done;
     }
     let last = ask(&mut desk, alloc, 65, Ask::OpenSession, &mut steps)?;
-    Ok(all && matches!(last.reply, Reply::Refused(Refusal::SessionsFull)))
+    Ok(all && last == Said::SessionsFull)
 }
 
 #[test]
@@ -198,15 +271,13 @@ fn fills_graphs<L: Ledger, R: Threads + Sync>(
     ask(&mut desk, alloc, 1, Ask::OpenSession, &mut steps)?;
     let mut name = Text::new(alloc);
     let mut all = true;
-    for _ in 0..256 {
+    for sid in 1..257 {
         name.push("g")?;
-        let call = place(alloc, name.as_str(), "s", 0)?;
-        let placed = ask(&mut desk, alloc, 1, call, &mut steps)?;
-        all = all && matches!(placed.reply, Reply::Sid(_));
+        let placed = place(&mut desk, alloc, (name.as_str(), "s"), sid, &mut steps)?;
+        all = all && placed;
     }
-    let call = clone(alloc, "h", "g")?;
-    let last = ask(&mut desk, alloc, 1, call, &mut steps)?;
-    Ok(all && matches!(last.reply, Reply::Refused(Refusal::GraphsFull)))
+    let last = clone(&mut desk, alloc, "h", "g", &mut steps)?;
+    Ok(all && last == Said::GraphsFull)
 }
 
 #[test]

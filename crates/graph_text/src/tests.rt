@@ -1,7 +1,7 @@
 //! What no clause shows: the texts of the journal's examples, and that calls succeed where there is memory.
 use crate::*;
 use column_types::{Kind, List, NoMemory, Text, Value};
-use graph_model::Graph;
+use graph_model::{ApplyFault, Graph};
 use graph_schema::{EdgeTable, Prop, Schema, VertexTable, all_named, ends_exist};
 use std::alloc::Global;
 use std::test::Fail;
@@ -45,16 +45,36 @@ fn empty_graph(
     Ok(Graph::empty(alloc, Schema::new(alloc, vertices, edges)?)?)
 }
 
-#[test]
-fn a_graph_without_properties(rt: HostRuntime) -> Result<(), Fail> {
-    let alloc = rt.alloc();
+fn one(alloc: Global, value: Value) -> Result<List<Value>, NoMemory> {
+    let mut values = List::new(alloc);
+    values.push(value)?;
+    Ok(values)
+}
+
+fn add_edges(
+    alloc: Global,
+    graph: &mut Graph,
+    edges: &[(i64, i64, i64)],
+) -> Result<(), ApplyFault> {
+    for (key, source, destination) in edges {
+        graph.insert_edge(0, *key, *source, *destination, List::new(alloc))?;
+    }
+    Ok(())
+}
+
+/// Vertices 1 and 2, two edges from 1 to 2, and one from 2 to 2.
+fn plain_graph(alloc: Global) -> Result<Graph, Fail> {
     let mut graph = empty_graph(alloc, "V", "E", &[])?;
     for key in [1, 2] {
         graph.insert_vertex(0, key, List::new(alloc))?;
     }
-    for (key, source, destination) in [(10, 1, 2), (11, 1, 2), (12, 2, 2)] {
-        graph.insert_edge(0, key, source, destination, List::new(alloc))?;
-    }
+    add_edges(alloc, &mut graph, &[(10, 1, 2), (11, 1, 2), (12, 2, 2)])?;
+    Ok(graph)
+}
+
+#[test]
+fn a_graph_without_properties(rt: HostRuntime) -> Result<(), Fail> {
+    let graph = plain_graph(rt.alloc())?;
     let want = concat!(
         "  ok 2 3\n",
         "  v V 1\n",
@@ -67,26 +87,28 @@ fn a_graph_without_properties(rt: HostRuntime) -> Result<(), Fail> {
         "  out V 2: 12\n",
         "  in V 2: 10 11 12\n"
     );
-    assert_eq!(rt; graph_text(alloc, &graph)?.as_str(), want);
+    assert_eq!(rt; graph_text(rt.alloc(), &graph)?.as_str(), want);
     Ok(())
 }
 
-fn one(alloc: Global, value: Value) -> Result<List<Value>, NoMemory> {
-    let mut values = List::new(alloc);
-    values.push(value)?;
-    Ok(values)
+fn add_person(alloc: Global, graph: &mut Graph, key: i64, age: Value) -> Result<(), ApplyFault> {
+    let values = one(alloc, age)?;
+    graph.insert_vertex(0, key, values)
+}
+
+/// Persons 1, 2 and 3 of ages 30, 41 and NULL, of whom 2 knows 1 and 3 knows 2.
+fn people(alloc: Global) -> Result<Graph, Fail> {
+    let mut graph = empty_graph(alloc, "Person", "knows", &[("age", Kind::Integer)])?;
+    add_person(alloc, &mut graph, 1, Value::Integer(30))?;
+    add_person(alloc, &mut graph, 2, Value::Integer(41))?;
+    add_person(alloc, &mut graph, 3, Value::Null)?;
+    add_edges(alloc, &mut graph, &[(10, 2, 1), (11, 3, 2)])?;
+    Ok(graph)
 }
 
 #[test]
 fn a_graph_with_a_property(rt: HostRuntime) -> Result<(), Fail> {
-    let alloc = rt.alloc();
-    let mut graph = empty_graph(alloc, "Person", "knows", &[("age", Kind::Integer)])?;
-    graph.insert_vertex(0, 1, one(alloc, Value::Integer(30))?)?;
-    graph.insert_vertex(0, 2, one(alloc, Value::Integer(41))?)?;
-    graph.insert_vertex(0, 3, one(alloc, Value::Null)?)?;
-    for (key, source, destination) in [(10, 2, 1), (11, 3, 2)] {
-        graph.insert_edge(0, key, source, destination, List::new(alloc))?;
-    }
+    let graph = people(rt.alloc())?;
     let want = concat!(
         "  ok 3 2\n",
         "  v Person 1 30\n",
@@ -101,13 +123,25 @@ fn a_graph_with_a_property(rt: HostRuntime) -> Result<(), Fail> {
         "  out Person 3: 11\n",
         "  in Person 3:\n"
     );
-    assert_eq!(rt; graph_text(alloc, &graph)?.as_str(), want);
+    assert_eq!(rt; graph_text(rt.alloc(), &graph)?.as_str(), want);
     Ok(())
 }
 
-#[test]
-fn a_vertex_with_each_kind_of_value(rt: HostRuntime) -> Result<(), Fail> {
-    let alloc = rt.alloc();
+/// A value of each kind, and NULL.
+fn each_kind(alloc: Global) -> Result<List<Value>, NoMemory> {
+    let text = Text::from_str(alloc, "it's a\nline")?;
+    let mut values = List::new(alloc);
+    values.push(Value::Integer(-7))?;
+    values.push(Value::Long(9223372036854775807))?;
+    values.push(Value::Boolean(true))?;
+    values.push(Value::Text(text))?;
+    values.push(Value::Date(0))?;
+    values.push(Value::Null)?;
+    Ok(values)
+}
+
+/// One vertex, with a value of each kind.
+fn one_of_each(alloc: Global) -> Result<Graph, Fail> {
     let plan = [
         ("a", Kind::Integer),
         ("b", Kind::Long),
@@ -117,21 +151,21 @@ fn a_vertex_with_each_kind_of_value(rt: HostRuntime) -> Result<(), Fail> {
         ("f", Kind::Text),
     ];
     let mut graph = empty_graph(alloc, "T", "E", &plan)?;
-    let mut values = List::new(alloc);
-    values.push(Value::Integer(-7))?;
-    values.push(Value::Long(9223372036854775807))?;
-    values.push(Value::Boolean(true))?;
-    values.push(Value::Text(Text::from_str(alloc, "it's a\nline")?))?;
-    values.push(Value::Date(0))?;
-    values.push(Value::Null)?;
+    let values = each_kind(alloc)?;
     graph.insert_vertex(0, -5, values)?;
+    Ok(graph)
+}
+
+#[test]
+fn a_vertex_with_each_kind_of_value(rt: HostRuntime) -> Result<(), Fail> {
+    let graph = one_of_each(rt.alloc())?;
     let want = concat!(
         "  ok 1 0\n",
         "  v T -5 -7 9223372036854775807 true 'it''s a\\nline' 1970-01-01 NULL\n",
         "  out T -5:\n",
         "  in T -5:\n"
     );
-    assert_eq!(rt; graph_text(alloc, &graph)?.as_str(), want);
+    assert_eq!(rt; graph_text(rt.alloc(), &graph)?.as_str(), want);
     Ok(())
 }
 
