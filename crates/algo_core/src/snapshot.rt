@@ -28,7 +28,7 @@ pub fn core_numbers<R: Threads + Sync>(
     ensures each { IfOk result (λ cores. (v : ℕ) → v < vertex_total on.now → IsCoreNumber (net_of on.now) v (slice_index cores v)) }
 {
     let order = VertexOrder::new(alloc, on)?;
-    let net = FlatNet::build(rt, alloc, on, &order)?;
+    let net = FlatNet::build(alloc, on, &order)?;
     let cores = net_core_numbers(rt, alloc, &net, workers)?;
     Ok(cores)
 }

@@ -39,7 +39,7 @@ pub fn least_weights<R: Threads + Sync>(
     }
     let weights = edge_weights(alloc, on, weight)?;
     let order = VertexOrder::new(alloc, on)?;
-    let net = FlatNet::build(rt, alloc, on, &order)?;
+    let net = FlatNet::build(alloc, on, &order)?;
     let start = order.index(at);
     let found = net_least_weights(rt, alloc, &net, weights.as_slice(), start, workers)?;
     Ok(found)

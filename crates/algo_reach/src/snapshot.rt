@@ -33,7 +33,7 @@ pub fn hops<R: Threads + Sync>(
         → IsHopDistance (net_of on.now) (index_of (table_sizes on.now) from) v (slice_index_or found v None)) }
 {
     let order = VertexOrder::new(alloc, on)?;
-    let net = FlatNet::build(rt, alloc, on, &order)?;
+    let net = FlatNet::build(alloc, on, &order)?;
     let found = net_hops(rt, alloc, &net, order.index(from), workers)?;
     Ok(found)
 }
@@ -55,7 +55,7 @@ pub fn components<R: Threads + Sync>(
     ensures each { IfOk result (λ labels. (v : ℕ) → v < vertex_total on.now → IsLabel (net_of on.now) v (slice_index labels v)) }
 {
     let order = VertexOrder::new(alloc, on)?;
-    let net = FlatNet::build(rt, alloc, on, &order)?;
+    let net = FlatNet::build(alloc, on, &order)?;
     let labels = net_components(rt, alloc, &net, workers)?;
     Ok(labels)
 }

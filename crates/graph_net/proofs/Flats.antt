@@ -5,10 +5,12 @@ use Rattle.std.proofs.lemmas.List.{length-map, get_or-map}
 use Rattle.std.proofs.lemmas.List.Elements.{All-get_or}
 use Rattle.std.proofs.lemmas.Slice.Zip.{firsts-zip}
 use Rattle.std.proofs.lemmas.Option.{slice_get_within}
-use Rattle.csr_rows.specs.Rows.{row_at, places_of}
-use Rattle.csr_rows.proofs.Meaning.{row_lists}
+use Rattle.csr_rows.specs.Rows.{places_of}
+use Rattle.graph_net.specs.declared.flat_rows.FlatRows.{FlatRows}
+use Rattle.graph_net.specs.FlatRows.{row_in}
 use Rattle.graph_net.specs.Net.{Net}
 use Rattle.graph_net.specs.Flat.{IsFlat}
+use Rattle.graph_net.proofs.Filling.{row_lists}
 use Rattle.graph_net.proofs.Rows.{source_is, target_is}
 
 pub seconds-zip : (xs ys : List ℕ) → length ys ≡ length xs → map (λ (p : ℕ × ℕ). p.1) (zip xs ys) ≡ ys
@@ -17,7 +19,7 @@ seconds-zip [] (y ∷ ys) h = absurd (omega arith)
 seconds-zip (x ∷ xs) [] h = absurd (omega arith)
 seconds-zip (x ∷ xs) (y ∷ ys) h = ap (λ zs. y ∷ zs) (seconds-zip xs ys (omega arith))
 
-module _ (vertices : ℕ) (sources targets : List ℕ) (out into : List (List ℕ)) (is : IsFlat vertices sources targets out into) where
+module _ (vertices : ℕ) (sources targets : List ℕ) (out into : FlatRows) (is : IsFlat vertices sources targets out into) where
   net : Net
   net = record { vertices = vertices; edges = zip sources targets }
 
@@ -49,8 +51,8 @@ module _ (vertices : ℕ) (sources targets : List ℕ) (out into : List (List �
       let to : slice_index targets e ≡ b = target_at e within ∙ target_is (record { vertices = vertices; edges = zip sources targets }) e a b h in
       (omega (arith, from, source_in e within), omega (arith, to, target_in e within))
 
-  pub out_row : (v : ℕ) → row_at out v ≡ places_of (map (λ (p : ℕ × ℕ). p.0) (zip sources targets)) v
-  out_row v = ap (λ rows. row_at rows v) is.out_is ∙ row_lists sources v ∙ ap (λ xs. places_of xs v) (sym firsts)
+  pub out_row : (v : ℕ) → row_in out v ≡ places_of (map (λ (p : ℕ × ℕ). p.0) (zip sources targets)) v
+  out_row v = row_lists vertices sources out is.out_are v is.sources_in ∙ ap (λ xs. places_of xs v) (sym firsts)
 
-  pub in_row : (v : ℕ) → row_at into v ≡ places_of (map (λ (p : ℕ × ℕ). p.1) (zip sources targets)) v
-  in_row v = ap (λ rows. row_at rows v) is.into_is ∙ row_lists targets v ∙ ap (λ xs. places_of xs v) (sym seconds)
+  pub in_row : (v : ℕ) → row_in into v ≡ places_of (map (λ (p : ℕ × ℕ). p.1) (zip sources targets)) v
+  in_row v = row_lists vertices targets into is.into_are v is.targets_in ∙ ap (λ xs. places_of xs v) (sym seconds)

@@ -1,16 +1,17 @@
 -- What the flat form of a net keeps.
 use Rattle.std.specs.Prelude.{◌≡◌, ℕ, ◌<◌, ◌≤◌, ◌^◌, All, List, length, sum, take, slice_index}
-use Rattle.csr_rows.specs.Rows.{rows_of}
+use Rattle.graph_net.specs.declared.flat_rows.FlatRows.{FlatRows}
+use Rattle.graph_net.specs.FlatRows.{AreRows}
 
 -- sources and targets are vertices, as many of the ones as of the others, and the rows are theirs
-pub record IsFlat (vertices : ℕ) (sources targets : List ℕ) (out into : List (List ℕ)) : Type 0 where
+pub record IsFlat (vertices : ℕ) (sources targets : List ℕ) (out into : FlatRows) : Type 0 where
   pub few_vertices : vertices ≤ 1048576
   pub few_edges : length sources ≤ 4194304
   pub long : length targets ≡ length sources
   pub sources_in : All (λ v. v < vertices) sources
   pub targets_in : All (λ v. v < vertices) targets
-  pub out_is : out ≡ rows_of sources
-  pub into_is : into ≡ rows_of targets
+  pub out_are : AreRows vertices sources out
+  pub into_are : AreRows vertices targets into
 
 -- for each table how many vertices stand before it, and how many there are in all
 pub record AreSums (sizes firsts : List ℕ) (total : ℕ) : Type 0 where

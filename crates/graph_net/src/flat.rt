@@ -1,17 +1,14 @@
 //! The net of a snapshot with rows both ways.
 ghost use Rattle.std.specs.Prelude.{◌≡◌, ◌↔◌, ◌+◌, ◌*◌, ◌<◌, ◌≤◌, IsTrue, IfOk, OnOk, All, map, length, sum, take, ◌++◌};
-ghost use Rattle.csr_rows.specs.Rows.{rows_of};
 ghost use Rattle.graph_net.specs.Net.{Net, IsClosed, leaving, entering, source_of, target_of};
 ghost use Rattle.graph_net.specs.NetOf.{net_of, net_edges, table_sizes, table_edges};
 
 use crate::VertexOrder;
-use column_types::{List, NoMemory, Steps};
-use csr_rows::Rows;
+use crate::flat_rows::FlatRows;
+use column_types::{List, NoMemory};
 use graph_snap::{EdgeAt, Snapshot};
 use std::alloc::Global;
-use std::marker::{Brand, Model};
-use std::sync::ledger::{Blank, Ledger};
-use std::thread::Threads;
+use std::marker::Model;
 
 /// A net with the places of the edges that leave and enter each vertex. Seen as the net: vertices by index, edges by place,
 /// both by tables and then by places in their table.
@@ -20,8 +17,8 @@ pub struct FlatNet {
     vertices: u32,
     sources: List<u32>,
     targets: List<u32>,
-    out: Rows,
-    into: Rows,
+    out: FlatRows,
+    into: FlatRows,
 }
 
 impl Model for FlatNet {
@@ -86,48 +83,18 @@ fn push_ends(
     Ok(())
 }
 
-/// The rows of ends, by a counter that nobody reads.
-fn rows_by<L: Ledger, R: Threads + Sync>(
-    rt: &R,
-    alloc: Global,
-    blank: Blank,
-    vertices: u32,
-    ends: &[u32],
-) -> Result<Rows, NoMemory>
-    requires name { blank.name ≡ L.name }
-    requires parts { blank.parts ≡ L.parts }
-    requires some { 0 < blank.parts }
-    requires below { All (λ e. e < vertices) ends.now }
-    requires few { length ends.now < 4294967295 }
-    ensures { IfOk result (λ rows. rows ≡ rows_of ends.now) }
-{
-    let mut steps = Steps::<L>::new(rt, blank);
-    Rows::build(alloc, vertices, ends, &mut steps)
-}
-
 impl FlatNet {
     /// The net of a snapshot, in the order of its vertices. It takes time and memory in proportion to vertices and edges; want
     /// of memory is the only error.
-    pub fn build<R: Threads + Sync>(
-        rt: &R,
-        alloc: Global,
-        on: &Snapshot,
-        order: &VertexOrder,
-    ) -> Result<FlatNet, NoMemory>
+    pub fn build(alloc: Global, on: &Snapshot, order: &VertexOrder) -> Result<FlatNet, NoMemory>
         requires { order.now ≡ table_sizes on.now }
         ensures { IfOk result (λ net. net ≡ net_of on.now) }
     {
         on.sound();
         let ends = all_ends(alloc, on, order)?;
         let vertices = order.vertex_count();
-        let out = rows_by::<Brand, _>(rt, alloc, Blank::new(1), vertices, ends.sources.as_slice())?;
-        let into = rows_by::<Brand, _>(
-            rt,
-            alloc,
-            Blank::new(1),
-            vertices,
-            ends.targets.as_slice(),
-        )?;
+        let out = FlatRows::build(alloc, vertices, ends.sources.as_slice())?;
+        let into = FlatRows::build(alloc, vertices, ends.targets.as_slice())?;
         let Ends { sources, targets } = ends;
         Ok(FlatNet {
             vertices,

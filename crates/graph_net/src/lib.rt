@@ -13,6 +13,7 @@
 #![tactic(auto)]
 
 mod flat;
+mod flat_rows;
 mod laws;
 mod order;
 #[cfg(test)]

@@ -102,7 +102,7 @@ fn two_table_net<R: Threads + Sync>(rt: &R, alloc: Global) -> Result<FlatNet, Fa
     let graph = two_tables(alloc)?;
     let snapshot = snapshot_of::<Brand, _>(rt, alloc, Blank::new(1), &graph)?;
     let order = VertexOrder::new(alloc, &snapshot)?;
-    let net = FlatNet::build(rt, alloc, &snapshot, &order)?;
+    let net = FlatNet::build(alloc, &snapshot, &order)?;
     Ok(net)
 }
 
