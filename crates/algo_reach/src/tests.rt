@@ -1,4 +1,4 @@
-//! Worked rows, graphs of several tables, and small graphs against the definitions. In graphs so small each level is wide, so
+//! Worked rows, and small graphs against the definitions. In graphs so small each level is wide, so
 //! several workers take rounds.
 ghost use Rattle.std.specs.Prelude.{◌≡◌, ◌<◌, ◌≤◌};
 
@@ -16,31 +16,32 @@ use std::thread::Threads;
 /// How many workers are tried.
 const WORKERS: [u32; 3] = [1, 2, 64];
 
-fn vertex_table(alloc: Global, name: &str) -> Result<VertexTable, NoMemory> {
-    Ok(VertexTable {
-        name: Text::from_str(alloc, name)?,
+fn vertex_tables(alloc: Global) -> Result<List<VertexTable>, NoMemory> {
+    let name = Text::from_str(alloc, "V")?;
+    let mut tables = List::new(alloc);
+    tables.push(VertexTable {
+        name,
         props: List::new(alloc),
-    })
+    })?;
+    Ok(tables)
 }
 
-fn edge_table(alloc: Global, name: &str, ends: (u32, u32)) -> Result<EdgeTable, NoMemory> {
-    Ok(EdgeTable {
-        name: Text::from_str(alloc, name)?,
-        source: ends.0,
-        destination: ends.1,
+fn edge_tables(alloc: Global) -> Result<List<EdgeTable>, NoMemory> {
+    let name = Text::from_str(alloc, "E")?;
+    let mut tables = List::new(alloc);
+    tables.push(EdgeTable {
+        name,
+        source: 0,
+        destination: 0,
         props: List::new(alloc),
-    })
+    })?;
+    Ok(tables)
 }
 
-/// The empty graph of the vertex tables A and B and the edge tables AA, AB and BA.
+/// The empty graph of the vertex table V and the edge table E.
 fn empty_graph(alloc: Global) -> Result<Graph, Fail> {
-    let mut vertices = List::new(alloc);
-    vertices.push(vertex_table(alloc, "A")?)?;
-    vertices.push(vertex_table(alloc, "B")?)?;
-    let mut edges = List::new(alloc);
-    edges.push(edge_table(alloc, "AA", (0, 0))?)?;
-    edges.push(edge_table(alloc, "AB", (0, 1))?)?;
-    edges.push(edge_table(alloc, "BA", (1, 0))?)?;
+    let vertices = vertex_tables(alloc)?;
+    let edges = edge_tables(alloc)?;
     if !all_named(vertices.as_slice(), edges.as_slice())
         || !ends_exist(vertices.as_slice(), edges.as_slice())
     {
@@ -50,7 +51,7 @@ fn empty_graph(alloc: Global) -> Result<Graph, Fail> {
     Ok(Graph::empty(alloc, schema)?)
 }
 
-/// A graph of vertices of the table A, with the keys 1 to `n`, and of edges among them.
+/// A graph of vertices with the keys 1 to `n`, and of edges among them.
 fn small_graph(alloc: Global, n: i64, edges: &[(u32, u32)]) -> Result<Graph, Fail> {
     let mut graph = empty_graph(alloc)?;
     for key in 1..=n {
@@ -82,18 +83,6 @@ fn snapshot_of<L: Ledger, R: Threads + Sync>(
 
 /// The edges of the row `cores_and_components`, by indexes.
 const ROW: [(u32, u32); 5] = [(0, 1), (1, 2), (2, 0), (0, 3), (3, 3)];
-
-/// Vertices 1 and 2 of the table A, 7 and 8 of the table B, and edges 1 to 8 and 8 to 2.
-fn two_tables(alloc: Global) -> Result<Graph, Fail> {
-    let mut graph = empty_graph(alloc)?;
-    graph.insert_vertex(0, 1, List::new(alloc))?;
-    graph.insert_vertex(0, 2, List::new(alloc))?;
-    graph.insert_vertex(1, 7, List::new(alloc))?;
-    graph.insert_vertex(1, 8, List::new(alloc))?;
-    graph.insert_edge(1, 10, 1, 8, List::new(alloc))?;
-    graph.insert_edge(2, 20, 8, 2, List::new(alloc))?;
-    Ok(graph)
-}
 
 /// Some edges among six vertices, other ones for each seed.
 fn some_edges(alloc: Global, seed: u32) -> Result<List<(u32, u32)>, NoMemory> {
@@ -205,32 +194,6 @@ fn hops_follow_the_edges(rt: HostRuntime) -> Result<(), Fail> {
         let found = hops_from(&rt, alloc, &snapshot, 2, workers)?;
         let want = [Some(2), Some(0), Some(1), Some(3), None];
         assert_eq!(rt; found.as_slice(), want.as_slice());
-    }
-    Ok(())
-}
-
-/// Whether the distances from vertex 0 and the labels of the graph of two tables are those of its drawing.
-fn two_tables_are_right<R: Threads + Sync>(
-    rt: &R,
-    alloc: Global,
-    snapshot: &Snapshot,
-    workers: u32,
-) -> Result<bool, Fail>
-    requires { (1 ≤ workers) × (workers ≤ 64) }
-{
-    let found = hops_from(rt, alloc, snapshot, 1, workers)?;
-    let labels = components(rt, alloc, snapshot, workers)?;
-    let are_hops = found.as_slice() == [Some(0), Some(2), None, Some(1)].as_slice();
-    Ok(are_hops && labels.as_slice() == [0, 0, 2, 0].as_slice())
-}
-
-#[test]
-fn vertices_stand_by_tables_and_places(rt: HostRuntime) -> Result<(), Fail> {
-    let alloc = rt.alloc();
-    let graph = two_tables(alloc)?;
-    let snapshot = snapshot_of::<Brand, _>(&rt, alloc, Blank::new(1), &graph)?;
-    for workers in WORKERS {
-        assert!(rt; two_tables_are_right(&rt, alloc, &snapshot, workers)?);
     }
     Ok(())
 }
