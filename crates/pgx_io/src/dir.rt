@@ -1,19 +1,25 @@
-//! The files of the working folder. They tell nothing of what they hold.
-ghost use Rattle.std.specs.Prelude.{◌≡◌, None};
+//! The files of the working folder, and no others. They tell nothing of what they hold.
+ghost use Rattle.std.specs.Prelude.{◌≡◌, None, Ok, true};
+ghost use Rattle.pgx_io.specs.Causes.{Rose};
+ghost use Rattle.pgx_io.specs.Files.{Finds, KeepsFiles, GetsWithCause};
+ghost use Rattle.pgx_io.specs.Names.{climbs, is_absolute, leads_out};
 
 use crate::{GetFault, Library};
 use column_types::List;
 use std::alloc::Global;
-use std::fs::File;
-use std::io::{ErrorKind, Read};
+use std::fs::{self, File};
+use std::io::{self, ErrorKind, Read};
 use std::marker::Model;
 use std::rt::Files;
 
 /// The most bytes of a file. To get a longer one is a failure.
 pub const FILE_LIMIT: u64 = 268_435_456;
 
-/// The files of the working folder, seen as how often a look-up has failed. A file that is missing is none; whatever else
-/// keeps its bytes from being read is a failure, as is a folder in its place.
+/// The files of the working folder, seen as how often a look-up has failed.
+///
+/// The folder is a fence: a name that is absolute, or that has a part `..`, finds no file, whatever the system has under it.
+/// A symbolic link in the folder is followed. A file that is missing is none; whatever else keeps its bytes from being read is
+/// a failure, and so is a name under which no regular file stands: a folder, a pipe or a device is never opened.
 #[derive(Drop)]
 pub struct DirLibrary<F: Files> {
     folder: F,
@@ -44,7 +50,15 @@ impl<F: Files> Library for DirLibrary<F> {
 
     ghost faults = { λ l. l };
 
-    fn get(&mut self, alloc: Global, name: &str) -> Result<Option<List<u8>>, GetFault> {
+    fn get(&mut self, alloc: Global, name: &str) -> Result<Option<List<u8>>, GetFault>
+        ensures found { Finds None name.now result }
+        ensures same { KeepsFiles None None }
+        ensures cause { GetsWithCause self.old self.new result }
+        ensures fence { leads_out name.now ≡ true → result ≡ Ok None }
+    {
+        if leads_out(name) {
+            return Ok(None);
+        }
         let answer = read_file(alloc, &self.folder, name);
         if let Err(GetFault::Failed) = answer {
             self.failures = self.failures.saturating_add(1);
@@ -53,13 +67,42 @@ impl<F: Files> Library for DirLibrary<F> {
     }
 }
 
+/// Whether a name begins with a slash.
+fn is_absolute(name: &str) -> bool
+    ensures { result ≡ is_absolute name.now }
+{
+    matches!(name.as_bytes(), [b'/', ..])
+}
+
+/// Whether a part of a name is `..`.
+fn climbs(name: &str) -> bool
+    ensures { result ≡ climbs name.now }
+{
+    name.split('/').any(|part| part == "..")
+}
+
+/// Whether a name leads out of the folder that it is looked for in.
+fn leads_out(name: &str) -> bool
+    ensures { result ≡ leads_out name.now }
+{
+    is_absolute(name) || climbs(name)
+}
+
+/// Opens a regular file.
+fn open_regular<F: Files>(folder: &F, name: &str) -> io::Result<F::File> {
+    if !fs::metadata(folder, name)?.is_file() {
+        return Err(io::Error::from(ErrorKind::InvalidInput));
+    }
+    File::open(folder, name)
+}
+
 fn read_file<F: Files>(
     alloc: Global,
     folder: &F,
     name: &str,
 ) -> Result<Option<List<u8>>, GetFault> {
     let mut bytes = Vec::new(alloc);
-    let read = match File::open(folder, name) {
+    let read = match open_regular(folder, name) {
         Ok(file) => file.take(FILE_LIMIT + 1).read_to_end(&mut bytes),
         Err(error) if error.kind() == ErrorKind::NotFound => return Ok(None),
         Err(error) => Err(error),

@@ -21,8 +21,6 @@ mod mem_source;
 mod sink;
 mod source;
 mod streams;
-#[cfg(test)]
-mod tests;
 
 pub use dir::{DirLibrary, FILE_LIMIT};
 pub use gate::{Gate, OpenGate};

@@ -1,0 +1,12 @@
+use Rattle.std.specs.Prelude.{[], ◌∷◌}
+use Rattle.std.specs.Str.{bytes_eq}
+use Rattle.std.proofs.Common.{lit<, rules}
+use Rattle.std.proofs.lemmas.Iterator.Search.{any_from_yields_List}
+use Rattle.std.proofs.lemmas.Iterator.Splits.{YieldsList-from_str_split}
+use Rattle.pgx_io.proofs.dir.climbs.Goals as goal
+
+pub returns : goal.returns
+returns c =
+    any_from_yields_List (λ part. bytes_eq part (46 ∷ 46 ∷ [])) _ _ _ c.any.ensures.ran
+    (YieldsList-from_str_split 47 c.args.name.now (lit< tt) c.split.ensures.text c.split.ensures.has_more c.split.ensures.pattern)
+    (λ x b q k. search rules)
