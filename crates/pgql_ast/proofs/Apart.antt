@@ -1,5 +1,5 @@
 -- Trees pass the test of equality exactly where they are equal with each place 0.
-use Rattle.std.proofs.Common.{rules, ◌≡◌, ℕ, Bool, true, false, ◌&&◌, List, [], ◌∷◌, map, refl, sym, ap, ◌∙◌, subst}
+use Rattle.std.proofs.Common.{rules, ◌≡◌, ℕ, Bool, true, false, true≢false, eqb, false-eqb, ◌&&◌, List, [], ◌∷◌, map, refl, sym, ap, ◌∙◌, subst}
 use Rattle.std.specs.Bool.{Decides}
 use Rattle.std.specs.Ordering.{int_eq}
 use Rattle.std.specs.Str.{bytes_eq}
@@ -155,6 +155,32 @@ same_operands (x ∷ xs) (y ∷ ys) =
     (operand_cons x.0 y.0 (without_places x.1.0) (without_places y.1) (bare_pairs (pairs xs)) (bare_pairs ys))
     (Decides-and (sameb op.the_type x.0 y.0 && same_tree x.1.0 y.1) (same_pairs (pair_tests (pairs xs)) ys) here (same_operands xs ys))
 
+-- the number of a form
+abbrev form : Layer → ℕ
+form (Node-F.Number _) = 0
+form (Node-F.Chars _) = 1
+form (Node-F.Truth _) = 2
+form Node-F.Null = 3
+form (Node-F.Date _) = 4
+form (Node-F.Name _) = 5
+form (Node-F.Prop _ _) = 6
+form (Node-F.Function _ _) = 7
+form Node-F.CountAll = 8
+form (Node-F.Aggregate _ _ _) = 9
+form (Node-F.Negate _) = 10
+form (Node-F.Not _) = 11
+form (Node-F.Product _ _) = 12
+form (Node-F.Sum _ _) = 13
+form (Node-F.Compare _ _ _) = 14
+form (Node-F.IsNull _ _) = 15
+form (Node-F.Member _ _ _) = 16
+form (Node-F.And _) = 17
+form (Node-F.Or _) = 18
+
+-- Layers of different forms are apart. The last clause of `same_layer` is checked for each of 342 pairs of forms, so it only computes.
+apart : (b : Bool) (x y : Layer) → b ≡ false → false ≡ eqb (form x) (form y) → Decides b (x ≡ y)
+apart b x y off differ = (λ e. absurd (true≢false (sym e ∙ off)), λ e. absurd (false-eqb (form x) (form y) differ (ap form e)))
+
 abbrev SameLayer : Node-F ToldNode ToldExpr → Node-F Node Expr → Type 0
 SameLayer x y = Decides (same_node (tests (plain x)) y) (bare (plain x) ≡ bare y)
 
@@ -205,7 +231,7 @@ same_layer (Node-F.And xs) (Node-F.And ys) =
     Decides-like (same_list (map same_tree (exprs xs)) ys) (ap conjunction) (conjunction_parts (map without_places (exprs xs)) (map without_places ys)) (same_exprs xs ys)
 same_layer (Node-F.Or xs) (Node-F.Or ys) =
     Decides-like (same_list (map same_tree (exprs xs)) ys) (ap disjunction) (disjunction_parts (map without_places (exprs xs)) (map without_places ys)) (same_exprs xs ys)
-same_layer x y = (λ e. cc, λ e. cc)
+same_layer x y = apart (same_node (tests (plain x)) y) (bare (plain x)) (bare y) refl refl
 
 abbrev expr_made : Node → Expr
 expr_made n = roll-Expr (record { place = 0; node = n })

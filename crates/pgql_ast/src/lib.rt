@@ -12,8 +12,6 @@ mod pattern;
 mod query;
 mod query_copy;
 mod same;
-#[cfg(test)]
-mod tests;
 mod token;
 
 pub use expr::{Aggregate, Expr, Node, Op};

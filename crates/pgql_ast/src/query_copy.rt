@@ -7,20 +7,48 @@ use column_types::{List, NoMemory, Text};
 use std::alloc::Global;
 
 /// An equal query.
+// Each part that is owned where memory may run out makes the proof dearer, expressions most: so pairs, and the conditions last.
 pub fn copy_query(alloc: Global, query: &Query) -> Result<Query, NoMemory>
     ensures { IfOk result (λ copy. copy ≡ query.now) }
 {
+    let selected = copy_selected(alloc, query)?;
+    let orders = copy_orders(alloc, query)?;
+    let conditions = copy_conditions(alloc, query)?;
     Ok(Query {
         distinct: query.distinct,
-        items: copy_items(alloc, query.items.as_slice())?,
-        matches: copy_matches(alloc, query.matches.as_slice())?,
-        condition: copy_optional(alloc, &query.condition)?,
-        groups: copy_exprs(alloc, query.groups.as_slice())?,
-        having: copy_optional(alloc, &query.having)?,
-        keys: copy_keys(alloc, query.keys.as_slice())?,
+        items: selected.0,
+        matches: selected.1,
+        condition: conditions.0,
+        groups: orders.0,
+        having: conditions.1,
+        keys: orders.1,
         limit: query.limit,
         offset: query.offset,
     })
+}
+
+/// Its items and its patterns.
+fn copy_selected(alloc: Global, query: &Query) -> Result<(List<Item>, List<Match>), NoMemory>
+    ensures { IfOk result (λ copy. copy ≡ (query.now.items, query.now.matches)) }
+{
+    let items = copy_items(alloc, query.items.as_slice())?;
+    Ok((items, copy_matches(alloc, query.matches.as_slice())?))
+}
+
+/// What stands behind its `WHERE` and its `HAVING`.
+fn copy_conditions(alloc: Global, query: &Query) -> Result<(Option<Expr>, Option<Expr>), NoMemory>
+    ensures { IfOk result (λ copy. copy ≡ (query.now.condition, query.now.having)) }
+{
+    let condition = copy_optional(alloc, &query.condition)?;
+    Ok((condition, copy_optional(alloc, &query.having)?))
+}
+
+/// What stands behind its `GROUP BY` and its `ORDER BY`.
+fn copy_orders(alloc: Global, query: &Query) -> Result<(List<Expr>, List<Key>), NoMemory>
+    ensures { IfOk result (λ copy. copy ≡ (query.now.groups, query.now.keys)) }
+{
+    let groups = copy_exprs(alloc, query.groups.as_slice())?;
+    Ok((groups, copy_keys(alloc, query.keys.as_slice())?))
 }
 
 fn copy_items(alloc: Global, items: &[Item]) -> Result<List<Item>, NoMemory>
@@ -36,9 +64,10 @@ fn copy_items(alloc: Global, items: &[Item]) -> Result<List<Item>, NoMemory>
 fn copy_item(alloc: Global, item: &Item) -> Result<Item, NoMemory>
     ensures { IfOk result (λ copy. copy ≡ item.now) }
 {
+    let alias = copy_name(&item.alias)?;
     Ok(Item {
         value: copy_expr(alloc, &item.value)?,
-        alias: copy_name(&item.alias)?,
+        alias,
     })
 }
 

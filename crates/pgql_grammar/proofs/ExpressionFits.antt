@@ -306,8 +306,8 @@ module _ (k : ℕ) (P Q : Level → Parser Expr) (L M : Level → Lang Expr) (in
   fits-tested left = fits-equal (last_first _ _ _ _) (last_first _ _ _ _) (fits-choose is_comparison (loose 3) (fits-comparison left)
       (fits-choose (is s.Is) (loose 3) (fits-null_test (suc k) left) (fits-choose is_member (loose 3) (fits-member left) (done (loose 3) left) refl refl refl refl) refl refl refl refl) refl refl refl refl)
 
-  fits-test : FS (r.test P) (r.test Q) (g.test L) (g.test M) starts_minus (loose 3)
-  unfolding r.test g.test is
+  fits-test : FS (r.sum_test P) (r.sum_test Q) (g.test L) (g.test M) starts_minus (loose 3)
+  unfolding r.sum_test g.test is
   fits-test = fits-bind fits-sum fits-tested refl
 
   abbrev refused : (Level → Lang Expr) → Lang Expr

@@ -176,8 +176,8 @@ module _ (inner : Level → Parser Expr) where
   unfoldable pub tested : Expr → Parser Expr
   tested left = choose is_comparison (comparison left) (choose (is s.Is) (null_test left) (choose is_member (member left) (pure left)))
 
-  unfoldable pub test : Parser Expr
-  test = do
+  unfoldable pub sum_test : Parser Expr
+  sum_test = do
     left ← sum
     tested left
 
@@ -188,7 +188,7 @@ module _ (inner : Level → Parser Expr) where
     pure (at x.place (n.Not e))
 
   unfoldable pub negation : Parser Expr
-  negation = choose (is s.Not) refused test
+  negation = choose (is s.Not) refused sum_test
 
   unfoldable pub conjunction : Parser Expr
   conjunction = do

@@ -314,10 +314,10 @@ impl<F: Fn(Global, &mut Rest<'_>, usize, Level) -> Result<Expr, Stop>> Grammar<F
         self.member_if_any(rest, left)
     }
 
-    #[tactic(auto, unfolding(pgql_grammar::specs::ExpressionReader::test))]
+    #[tactic(auto, unfolding(pgql_grammar::specs::ExpressionReader::sum_test))]
     fn test(&self, rest: &mut Rest<'_>) -> Result<Expr, Stop>
         requires { Nests self.now.depth (F.pre self.now.expr) (F.post self.now.expr) }
-        ensures { Reads (rule.test (rule.nested self.now.depth) rest.old) result rest.new }
+        ensures { Reads (rule.sum_test (rule.nested self.now.depth) rest.old) result rest.new }
     {
         let left = self.sum(rest)?;
         self.tested(rest, left)
