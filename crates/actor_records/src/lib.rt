@@ -16,8 +16,6 @@
 
 mod laws;
 mod record;
-#[cfg(test)]
-mod tests;
 mod walk;
 
 pub use laws::{Ruled, phases_are_apart, the_walk_is_a_journal};

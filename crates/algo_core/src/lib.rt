@@ -15,7 +15,5 @@
 mod cores;
 mod peel;
 mod snapshot;
-#[cfg(test)]
-mod tests;
 
 pub use snapshot::core_numbers;

@@ -17,8 +17,6 @@ mod relax;
 mod round;
 mod search;
 mod snapshot;
-#[cfg(test)]
-mod tests;
 mod weights;
 
 pub use fault::PathFault;

@@ -14,7 +14,5 @@ mod labels;
 mod levels;
 mod marks;
 mod snapshot;
-#[cfg(test)]
-mod tests;
 
 pub use snapshot::{components, hops};

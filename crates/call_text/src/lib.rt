@@ -7,8 +7,6 @@
 
 mod ask;
 mod reply;
-#[cfg(test)]
-mod tests;
 mod words;
 
 pub use ask::push_ask;

@@ -27,8 +27,6 @@ mod parts;
 mod reach;
 mod reply;
 mod response;
-#[cfg(test)]
-mod tests;
 
 pub use ask::{Ask, How, Mutation};
 pub use call::{Call, Gift, Made};

@@ -12,8 +12,6 @@
 
 mod alone;
 mod held;
-#[cfg(test)]
-mod tests;
 
 pub use alone::{Alone, Told};
 pub use held::{Held, Named};

@@ -24,8 +24,6 @@ mod print;
 mod room;
 mod shared;
 mod steps;
-#[cfg(test)]
-mod tests;
 mod text;
 mod value;
 

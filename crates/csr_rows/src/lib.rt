@@ -11,8 +11,6 @@
 
 mod laws;
 mod rows;
-#[cfg(test)]
-mod tests;
 
 pub use laws::rows_list_the_places_of_their_ends;
 pub use rows::Rows;

@@ -32,8 +32,6 @@ mod field;
 mod names;
 mod path;
 mod tables;
-#[cfg(test)]
-mod tests;
 mod walk;
 
 pub use config::{Config, read_config};

@@ -13,8 +13,6 @@ mod graph;
 mod laws;
 mod row;
 mod tables;
-#[cfg(test)]
-mod tests;
 
 pub use change::{ApplyFault, Change, Why};
 pub use graph::Graph;

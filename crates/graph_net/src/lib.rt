@@ -16,8 +16,6 @@ mod flat;
 mod flat_rows;
 mod laws;
 mod order;
-#[cfg(test)]
-mod tests;
 
 pub use flat::{FlatNet, is_wide};
 pub use laws::{

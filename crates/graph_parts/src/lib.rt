@@ -22,8 +22,6 @@ mod laws;
 mod parts;
 mod props;
 mod row;
-#[cfg(test)]
-mod tests;
 mod vertex_parts;
 
 pub use key_index::{KeyIndex, RowAt};

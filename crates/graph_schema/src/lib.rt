@@ -16,8 +16,6 @@ mod laws;
 mod location;
 mod name;
 mod schema;
-#[cfg(test)]
-mod tests;
 
 pub use condition::{all_named, ends_exist};
 pub use fault::SchemaFault;

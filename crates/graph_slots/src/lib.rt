@@ -13,8 +13,6 @@
 mod laws;
 mod part;
 mod slot;
-#[cfg(test)]
-mod tests;
 mod touch;
 
 pub use laws::{one_more_change, slot_is_kept, slot_is_kept_by_all, slots_are_few};

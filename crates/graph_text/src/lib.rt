@@ -8,8 +8,6 @@
 mod ends;
 mod lines;
 mod number;
-#[cfg(test)]
-mod tests;
 mod text;
 
 pub use number::{push_count, push_number};

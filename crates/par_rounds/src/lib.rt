@@ -7,9 +7,6 @@
 ghost use Rattle.std.specs.Prelude.{◌≡◌, ℕ, ◌<◌, ◌≤◌, IfOk, length, slice_index_or};
 ghost use Rattle.std.specs.List.{AllZip, range_with_len};
 
-#[cfg(test)]
-mod tests;
-
 use column_types::{List, NoMemory};
 use rayon::prelude::*;
 use std::alloc::Global;

@@ -19,8 +19,6 @@ mod bytes;
 mod front;
 mod laws;
 mod scan;
-#[cfg(test)]
-mod tests;
 mod words;
 
 pub use laws::{

@@ -22,8 +22,6 @@ mod nodes;
 mod patterns;
 mod rest;
 mod sorts;
-#[cfg(test)]
-mod tests;
 mod whole;
 
 pub use whole::parse;

@@ -8,8 +8,6 @@
 mod limits;
 mod pieces;
 mod quotes;
-#[cfg(test)]
-mod tests;
 mod words;
 
 pub use pieces::pieces_of;

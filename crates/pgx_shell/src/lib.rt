@@ -13,8 +13,6 @@ mod open;
 mod printing;
 mod run;
 mod stop;
-#[cfg(test)]
-mod tests;
 mod whole;
 mod words;
 

@@ -40,8 +40,6 @@ mod lines;
 mod read;
 mod reading;
 mod script;
-#[cfg(test)]
-mod tests;
 mod words;
 
 pub use fault::{LineWhy, ScriptFault};

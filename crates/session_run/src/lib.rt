@@ -16,8 +16,6 @@ mod own;
 mod place;
 mod record;
 mod session;
-#[cfg(test)]
-mod tests;
 
 pub use next::next_ask;
 pub use own::Own;

@@ -31,8 +31,6 @@ mod put;
 mod record;
 mod records;
 mod tables;
-#[cfg(test)]
-mod tests;
 
 pub use fault::LoadFault;
 pub use inline::read_inline;

@@ -20,8 +20,6 @@ mod hall;
 mod laws;
 mod lock;
 mod rule;
-#[cfg(test)]
-mod tests;
 mod view;
 
 pub use booked::Booked;

@@ -1,4 +1,0 @@
-use Rattle.graph_net.proofs.tests.two_table_net.Given as goal
-
-abbrev pub ghosts-snapshot_of : goal.ghosts-snapshot_of
-ghosts-snapshot_of r a = record { name = a.blank.name; parts = a.blank.parts }

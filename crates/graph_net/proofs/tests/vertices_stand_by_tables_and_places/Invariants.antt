@@ -1,4 +1,0 @@
-use Rattle.graph_net.proofs.tests.vertices_stand_by_tables_and_places.Given as goal
-
-abbrev pub ghosts-snapshot_of : goal.ghosts-snapshot_of
-ghosts-snapshot_of r a = record { name = a.blank.name; parts = a.blank.parts }
