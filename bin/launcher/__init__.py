@@ -1,0 +1,1 @@
+"""What `bin/tarzubei` does around the proved program: help, building, installing, quick runs, explanations."""

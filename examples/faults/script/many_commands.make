@@ -1,0 +1,3 @@
+# 65,537 commands behind two lines
+printf 'phase\nactor a\n'
+yes columns | head -n 65537
