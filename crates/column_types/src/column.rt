@@ -1,6 +1,9 @@
 //! Columns of values of one kind.
-ghost use Rattle.std.specs.Prelude.{◌≡◌, ◌↔◌, [], ◌∷◌, ◌++◌, ◌+◌, ◌<◌, length, Some, slice_get, IsTrue, IfOk, OnOk, OnErr};
+ghost use Rattle.std.specs.Prelude.{◌≡◌, ◌≢◌, ◌↔◌, ◌⊎◌, [], ◌∷◌, ◌++◌, ◌+◌, ◌<◌, length, map, Some, slice_get, slice_set, Contains, IsTrue, IfOk, OnOk, OnErr, IfSome, IsNone};
 ghost use Rattle.column_types.specs.Value.{cell_value, fits_kind};
+ghost use Rattle.column_types.specs.Column.{column_data};
+ghost use Rattle.column_types.specs.declared.kind.Kind.TheVariants as kind;
+ghost use Rattle.column_types.specs.declared.value.Value.TheVariants as value;
 
 use crate::nullable::Nullable;
 use crate::{Cell, Kind, NoMemory, Steps, Text, Value};
@@ -51,6 +54,62 @@ impl Cells {
             Cells::Dates(items) => match value {
                 Value::Null => items.push_missing(0),
                 Value::Date(d) => items.push(d),
+                _ => unreachable!(),
+            },
+        }
+    }
+}
+
+#[tactic(auto, using(crate::proofs::Entries::values_steps))]
+impl Cells {
+    ghost use Rattle.column_types.specs.Column.{column_data};
+
+    fn set(&mut self, alloc: Global, row: usize, value: Value) -> Result<(), NoMemory>
+        requires kind { IsTrue (fits_kind (column_data self.old).kind value) }
+        requires row { row < length (column_data self.old).values }
+        ensures kind { (column_data self.new).kind ≡ (column_data self.old).kind }
+        ensures ok { OnOk result ((column_data self.new).values ≡ slice_set (column_data self.old).values row value) }
+        ensures err { OnErr result (column_data self.new ≡ column_data self.old) }
+    {
+        match self {
+            Cells::Integers(items) => match value {
+                Value::Null => items.set_missing(row, 0),
+                Value::Integer(n) => {
+                    items.set(row, n);
+                    Ok(())
+                }
+                _ => unreachable!(),
+            },
+            Cells::Longs(items) => match value {
+                Value::Null => items.set_missing(row, 0),
+                Value::Long(n) => {
+                    items.set(row, n);
+                    Ok(())
+                }
+                _ => unreachable!(),
+            },
+            Cells::Booleans(items) => match value {
+                Value::Null => items.set_missing(row, false),
+                Value::Boolean(b) => {
+                    items.set(row, b);
+                    Ok(())
+                }
+                _ => unreachable!(),
+            },
+            Cells::Texts(items) => match value {
+                Value::Null => items.set_missing(row, Text::new(alloc)),
+                Value::Text(t) => {
+                    items.set(row, t);
+                    Ok(())
+                }
+                _ => unreachable!(),
+            },
+            Cells::Dates(items) => match value {
+                Value::Null => items.set_missing(row, 0),
+                Value::Date(d) => {
+                    items.set(row, d);
+                    Ok(())
+                }
                 _ => unreachable!(),
             },
         }
@@ -129,6 +188,28 @@ impl Column {
         }
     }
 
+    /// The values as they lie in memory, where they are LONGs and none of them is NULL.
+    pub fn longs(&self) -> Option<&[i64]>
+        ensures some { IfSome result (λ longs. self.now ≡ record { kind = kind.Long; values = map value.Long longs.now }) }
+        ensures none { IsNone result → (self.now.kind ≢ kind.Long) ⊎ Contains self.now.values value.Null }
+    {
+        match &self.cells {
+            Cells::Longs(items) => items.whole(),
+            _ => None,
+        }
+    }
+
+    /// The values as they lie in memory, where they are INTEGERs and none of them is NULL.
+    pub fn integers(&self) -> Option<&[i32]>
+        ensures some { IfSome result (λ integers. self.now ≡ record { kind = kind.Integer; values = map value.Integer integers.now }) }
+        ensures none { IsNone result → (self.now.kind ≢ kind.Integer) ⊎ Contains self.now.values value.Null }
+    {
+        match &self.cells {
+            Cells::Integers(items) => items.whole(),
+            _ => None,
+        }
+    }
+
     fn push(&mut self, alloc: Global, value: Value) -> Result<(), NoMemory>
         requires kind { IsTrue (fits_kind self.old.kind value) }
         requires room { length self.old.values < 4294967295 }
@@ -137,6 +218,124 @@ impl Column {
         ensures err { OnErr result (self.new ≡ self.old) }
     {
         self.cells.push(alloc, value)
+    }
+
+    fn set(&mut self, alloc: Global, row: u32, value: Value) -> Result<(), NoMemory>
+        requires kind { IsTrue (fits_kind self.old.kind value) }
+        requires row { row < length self.old.values }
+        ensures kind { self.new.kind ≡ self.old.kind }
+        ensures ok { OnOk result (self.new.values ≡ slice_set self.old.values row value) }
+        ensures err { OnErr result (self.new ≡ self.old) }
+    {
+        self.cells.set(alloc, row as usize, value)
+    }
+}
+
+/// The cells of a column without values.
+fn no_cells(alloc: Global, kind: Kind) -> Cells
+    ensures { column_data result ≡ record { kind = kind; values = [] } }
+{
+    match kind {
+        Kind::Integer => Cells::Integers(Nullable::new(alloc)),
+        Kind::Long => Cells::Longs(Nullable::new(alloc)),
+        Kind::Boolean => Cells::Booleans(Nullable::new(alloc)),
+        Kind::Text => Cells::Texts(Nullable::new(alloc)),
+        Kind::Date => Cells::Dates(Nullable::new(alloc)),
+    }
+}
+
+/// A column that can still be changed, seen as the column that it holds. It becomes a [`Column`] by `finish`, which copies
+/// nothing and counts a step for each value: no column comes to be without them.
+#[derive(Drop)]
+pub struct EditableColumn {
+    alloc: Global,
+    column: Column,
+}
+
+impl Model for EditableColumn {
+    ghost use Rattle.column_types.specs.Column.{ColumnData};
+
+    ghost Value = { ColumnData };
+
+    ghost view = { λ e. e.column };
+}
+
+impl EditableColumn {
+    ghost use Rattle.column_types.specs.Column.{IsColumn};
+
+    /// A column without values. It takes no memory.
+    pub fn new(alloc: Global, kind: Kind) -> EditableColumn
+        ensures { result ≡ record { kind = kind; values = [] } }
+    {
+        EditableColumn {
+            alloc,
+            column: Column {
+                cells: no_cells(alloc, kind),
+            },
+        }
+    }
+
+    pub fn kind(&self) -> Kind
+        ensures { result ≡ self.now.kind }
+    {
+        self.column.kind()
+    }
+
+    /// The number of values. Each is NULL or of the column's kind.
+    pub fn len(&self) -> u32
+        ensures rows { result ≡ length self.now.values }
+        ensures column { IsColumn self.now }
+    {
+        self.column.len()
+    }
+
+    pub fn is_empty(&self) -> bool
+        ensures { IsTrue result ↔ (self.now.values ≡ []) }
+    {
+        self.column.is_empty()
+    }
+
+    /// The value in a row, counted from 0, lent in constant time.
+    pub fn get(&self, row: u32) -> Cell<'_>
+        requires { row < length self.now.values }
+        ensures { slice_get self.now.values row ≡ Some (cell_value result) }
+    {
+        self.column.get(row)
+    }
+
+    /// Appends one value. After an error the value is dropped and the column is as before.
+    pub fn push(&mut self, value: Value) -> Result<(), NoMemory>
+        requires kind { IsTrue (fits_kind self.old.kind value) }
+        requires room { length self.old.values < 4294967295 }
+        ensures kind { self.new.kind ≡ self.old.kind }
+        ensures ok { OnOk result (self.new.values ≡ self.old.values ++ value ∷ []) }
+        ensures err { OnErr result (self.new ≡ self.old) }
+    {
+        let alloc = self.alloc;
+        self.column.push(alloc, value)
+    }
+
+    /// Puts another value in a row. It may take memory for a NULL alone. After an error the value is dropped and the column is as
+    /// before.
+    pub fn set(&mut self, row: u32, value: Value) -> Result<(), NoMemory>
+        requires kind { IsTrue (fits_kind self.old.kind value) }
+        requires row { row < length self.old.values }
+        ensures kind { self.new.kind ≡ self.old.kind }
+        ensures ok { OnOk result (self.new.values ≡ slice_set self.old.values row value) }
+        ensures err { OnErr result (self.new ≡ self.old) }
+    {
+        let alloc = self.alloc;
+        self.column.set(alloc, row, value)
+    }
+
+    /// The column of these values, for one step each. It takes no memory, and nothing is copied.
+    pub fn finish<L: Ledger>(self, steps: &mut Steps<L>) -> Column
+        ensures column { result ≡ self }
+        ensures counted { steps.new ≡ steps.old + length self.values }
+    {
+        let EditableColumn { alloc: _, column } = self;
+        steps.tick_each(column.len());
+        column
     }
 }
 
@@ -161,13 +360,7 @@ impl ColumnBuilder {
         ensures kind { IfOk result (λ b. b.kind ≡ kind) }
         ensures values { IfOk result (λ b. b.values ≡ []) }
     {
-        let cells = match kind {
-            Kind::Integer => Cells::Integers(Nullable::new(alloc)),
-            Kind::Long => Cells::Longs(Nullable::new(alloc)),
-            Kind::Boolean => Cells::Booleans(Nullable::new(alloc)),
-            Kind::Text => Cells::Texts(Nullable::new(alloc)),
-            Kind::Date => Cells::Dates(Nullable::new(alloc)),
-        };
+        let cells = no_cells(alloc, kind);
         Ok(ColumnBuilder {
             alloc,
             column: Column { cells },

@@ -2,7 +2,8 @@
 //!
 //! * A [`Value`] is NULL or a value of one of five [`Kind`]s; a [`Cell`] is a value that is lent. `parse_value` reads
 //!   the text of a field, `value_text` prints a value, and `compare_values` is the order of values.
-//! * A [`Column`] is seen as its kind and the list of its values. A [`ColumnBuilder`] makes it, one value at a time.
+//! * A [`Column`] is seen as its kind and the list of its values. A [`ColumnBuilder`] makes it, one value at a time, and an
+//!   [`EditableColumn`] can be changed before it becomes one. Each value of a column costs one step.
 //! * A [`Text`] is seen as the list of its bytes, a [`List`] as the list of its items, a [`Shared`] as the value that it
 //!   shares, a [`Roomy`] as a list with a number of spare places, and a [`Steps`] as a number.
 //!
@@ -28,7 +29,7 @@ mod text;
 mod value;
 
 pub use cell::Cell;
-pub use column::{Column, ColumnBuilder};
+pub use column::{Column, ColumnBuilder, EditableColumn};
 pub use fault::{FieldFault, NoMemory};
 pub use kind::Kind;
 pub use laws::{

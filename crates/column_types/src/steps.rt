@@ -5,7 +5,7 @@ use std::marker::Model;
 use std::sync::ledger::{Blank, Book, Ledger, Share};
 use std::thread::Threads;
 
-/// How many steps of work were done, seen as a number. It takes no bytes, and only `tick` changes it.
+/// How many steps of work were done, seen as a number. It takes no bytes, and only `tick` and `tick_each` change it.
 #[derive(Drop)]
 pub struct Steps<L: Ledger> {
     book: Book<L>,
@@ -41,5 +41,12 @@ impl<L: Ledger> Steps<L> {
         ensures { self.new ≡ self.old + 1 }
     {
         self.book.add(&mut self.share, 1);
+    }
+
+    /// Counts so many steps.
+    pub fn tick_each(&mut self, count: u32)
+        ensures { self.new ≡ self.old + count }
+    {
+        self.book.add(&mut self.share, count as u64);
     }
 }

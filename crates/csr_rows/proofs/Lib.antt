@@ -1,2 +1,4 @@
 pub mod Places
 pub mod Meaning
+pub mod Sorting
+pub mod Offsets
