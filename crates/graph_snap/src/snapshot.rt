@@ -1,23 +1,28 @@
 //! Snapshots.
-ghost use Rattle.std.specs.Prelude.{◌≡◌, ◌↔◌, ◌<◌, ◌≤◌, ◌+◌, ◌*◌, true, false, map, length, slice_get, Some, IsNone, IfSome, IfOk, OnOk};
+ghost use Rattle.std.specs.Prelude.{◌≡◌, ◌↔◌, ◌<◌, ◌≤◌, ◌+◌, ◌*◌, ℤ, pos, List as Items, All, true, false, map, length, slice_get, Some, IsNone, IfSome, IfOk, OnOk};
 ghost use Rattle.column_types.specs.Value.{cell_value};
 ghost use Rattle.csr_rows.specs.Rows.{places_of};
 ghost use Rattle.graph_model.specs.Keys.{rows_at};
-ghost use Rattle.graph_model.specs.Graph.{IsGraph, vertex_props_at, edge_props_at, source_at, destination_at, has_vertex, has_edge, vertex_total, edge_total, cell_total};
+ghost use Rattle.graph_model.specs.Graph.{IsGraph, vertex_props_at, edge_props_at, source_at, destination_at, has_vertex, has_edge, has_vertex_in, has_edge_in, vertex_total, edge_total, cell_total};
 ghost use Rattle.graph_slots.specs.Slots.{slots};
-ghost use Rattle.graph_slots.specs.Meaning.{slot_value, vertex_prop_values, edge_prop_values, source_places, destination_places};
-ghost use Rattle.graph_slots.specs.declared.part.Part.TheVariants.{Cells as CellsOf};
+ghost use Rattle.graph_slots.specs.Meaning.{slot_value, longs, vertex_prop_values, edge_prop_values, source_places, destination_places};
+ghost use Rattle.graph_slots.specs.declared.part.Part.TheVariants.{Cells as CellsOf, Rows as RowsOf};
 ghost use Rattle.graph_snap.specs.Numbers.{slot_number, HasSlot};
 ghost use Rattle.graph_snap.specs.Seen.{Stands, IsSnapshot, graph_of, is_column, ends_of};
-ghost use Rattle.graph_snap.specs.Reading.{HasVertex, HasEdge, StartsAt, EndsAt, vertex_keys_at, edge_keys_at, out_places, in_places};
+ghost use Rattle.graph_snap.specs.Reading.{HasVertex, HasEdge, StartsAt, EndsAt, IsLeast, vertex_keys_at, edge_keys_at, out_places, in_places};
+ghost use Rattle.graph_snap.specs.Sharing.{graph_parts, IsKnown, parts_of, kept_of, IsBuiltOn};
+ghost use Rattle.graph_snap.specs.Indexes.{AreIndexes};
 
-use crate::cells::{key_at, place_at};
+use crate::cells::{place_at, place_slice};
+use crate::indexes::{edge_indexes, first_row, kept_indexes, vertex_indexes};
 use crate::layout::Layout;
 use crate::plain::{edge_tables, vertex_tables};
-use crate::{EdgeAt, VertexAt};
+use crate::sharing::{derived_parts, kept_slots, share_indexes, share_parts};
+use crate::{Built, Derived, EdgeAt, VertexAt};
 use column_types::{Cell, Column, List, NoMemory, Shared, Steps};
+use csr_rows::Rows;
+use graph_columns::{GraphParts, TableIndex, all_parts, key_slice};
 use graph_model::Graph;
-use graph_parts::{GraphParts, KeyIndex, graph_parts, indexed_parts};
 use graph_schema::Schema;
 use graph_slots::{Part, SlotName};
 use std::alloc::Global;
@@ -29,8 +34,8 @@ use std::sync::ledger::Ledger;
 pub struct Snapshot {
     layout: Shared<Layout>,
     parts: List<Part>,
-    vertices: Shared<KeyIndex>,
-    edges: Shared<KeyIndex>,
+    vertices: List<Shared<TableIndex>>,
+    edges: List<Shared<TableIndex>>,
 }
 
 impl Model for Snapshot {
@@ -44,19 +49,9 @@ impl Model for Snapshot {
     ghost invariant = { λ s. IsSnapshot s.layout s.parts s.vertices s.edges };
 }
 
-fn share_all(alloc: Global, parts: &List<Part>) -> Result<List<Part>, NoMemory>
-    ensures { IfOk result (λ copies. copies ≡ parts.now) }
-{
-    let mut copies = List::new(alloc);
-    for part in parts.as_slice() {
-        copies.push(part.share()?)?;
-    }
-    Ok(copies)
-}
-
 impl Snapshot {
     /// The snapshot of a graph. It counts a step for each property cell, for each vertex its key, and for each edge its key,
-    /// its two places and its two rows.
+    /// its two places and its two rows; where memory runs out, no more than these.
     pub fn build<L: Ledger>(
         alloc: Global,
         graph: &Graph,
@@ -64,38 +59,103 @@ impl Snapshot {
     ) -> Result<Snapshot, NoMemory>
         ensures ok { IfOk result (λ snapshot. snapshot ≡ graph.now) }
         ensures counted { OnOk result (steps.new ≡ steps.old + (cell_total graph.now + vertex_total graph.now + 5 * edge_total graph.now)) }
+        ensures least { steps.old ≤ steps.new }
+        ensures most { steps.new ≤ steps.old + (cell_total graph.now + vertex_total graph.now + 5 * edge_total graph.now) }
     {
         graph.sound();
-        let schema = graph.schema().clone()?;
-        let made = graph_parts(alloc, graph, steps)?;
-        Snapshot::from_parts(alloc, schema, made)
+        let layout = Layout::new(alloc, graph.schema().clone()?)?;
+        let made = all_parts(alloc, graph, steps)?;
+        Snapshot::of_parts(alloc, layout, made)
     }
 
-    /// The snapshot of parts in slot order, which are those of a graph of the schema. No part is copied.
+    /// The snapshot of a graph that is not needed any more. It counts as [`Snapshot::build`] does.
+    pub fn of_graph<L: Ledger>(
+        alloc: Global,
+        graph: Graph,
+        steps: &mut Steps<L>,
+    ) -> Result<Snapshot, NoMemory>
+        ensures ok { IfOk result (λ snapshot. snapshot ≡ graph) }
+        ensures counted { OnOk result (steps.new ≡ steps.old + (cell_total graph + vertex_total graph + 5 * edge_total graph)) }
+        ensures least { steps.old ≤ steps.new }
+        ensures most { steps.new ≤ steps.old + (cell_total graph + vertex_total graph + 5 * edge_total graph) }
+    {
+        Snapshot::build(alloc, &graph, steps)
+    }
+
+    /// The snapshot of parts in slot order, which are those of a graph of the schema. No part is copied, and each key is hashed
+    /// once.
     pub fn assemble(alloc: Global, schema: Schema, parts: List<Part>) -> Result<Snapshot, NoMemory>
         requires { Stands (graph_of schema parts) parts }
         ensures { IfOk result (λ snapshot. snapshot ≡ graph_of schema parts) }
     {
-        let made = indexed_parts(alloc, &schema, parts)?;
-        Snapshot::from_parts(alloc, schema, made)
+        Snapshot::over(alloc, schema, parts, &[])
+    }
+
+    /// A snapshot that is made from another one: for each slot it keeps a part of the base, or has a new one. These are the
+    /// parts of a graph of the schema. No part is copied, and no key of a kept key slot is hashed again. It takes no steps,
+    /// since it makes no part.
+    pub fn derive(
+        alloc: Global,
+        base: &Snapshot,
+        schema: Schema,
+        derived: List<Derived>,
+        skipped: u64,
+    ) -> Result<Built, NoMemory>
+        requires known { All (IsKnown base.now) derived }
+        requires stands { Stands (graph_of schema (parts_of base.now derived)) (parts_of base.now derived) }
+        ensures shot { IfOk result (λ built. built.shot ≡ graph_of schema (parts_of base.now derived)) }
+        ensures kept { IfOk result (λ built. built.kept ≡ map kept_of derived) }
+        ensures skipped { IfOk result (λ built. built.skipped ≡ skipped) }
+        ensures shares { IfOk result (IsBuiltOn base.now) }
+    {
+        let kept = kept_slots(alloc, derived.as_slice())?;
+        let known = kept_indexes(alloc, base, derived.as_slice())?;
+        let parts = derived_parts(alloc, base, derived.as_slice())?;
+        let shot = Snapshot::over(alloc, schema, parts, known.as_slice())?;
+        Ok(Built {
+            shot,
+            kept,
+            skipped,
+        })
+    }
+
+    /// The snapshot of parts, with the indexes that are known for some of its slots.
+    fn over(
+        alloc: Global,
+        schema: Schema,
+        parts: List<Part>,
+        known: &[Option<Shared<TableIndex>>],
+    ) -> Result<Snapshot, NoMemory>
+        requires stands { Stands (graph_of schema parts) parts }
+        requires known { AreIndexes parts known.now }
+        ensures { IfOk result (λ snapshot. snapshot ≡ graph_of schema parts) }
+    {
+        let layout = Layout::new(alloc, schema)?;
+        let vertices = vertex_indexes(alloc, &layout, parts.as_slice(), known)?;
+        let edges = edge_indexes(alloc, &layout, parts.as_slice(), known)?;
+        let made = GraphParts {
+            parts,
+            vertices,
+            edges,
+        };
+        Snapshot::of_parts(alloc, layout, made)
     }
 
     /// The snapshot of parts with the indexes of their keys.
-    fn from_parts(alloc: Global, schema: Schema, made: GraphParts) -> Result<Snapshot, NoMemory>
-        requires { IsSnapshot schema made.parts made.vertices made.edges }
-        ensures { IfOk result (λ snapshot. snapshot ≡ graph_of schema made.parts) }
+    fn of_parts(alloc: Global, layout: Layout, made: GraphParts) -> Result<Snapshot, NoMemory>
+        requires { IsSnapshot layout made.parts made.vertices made.edges }
+        ensures { IfOk result (λ snapshot. snapshot ≡ graph_of layout made.parts) }
     {
         let GraphParts {
             parts,
             vertices,
             edges,
         } = made;
-        let layout = Layout::new(alloc, schema)?;
         Ok(Snapshot {
             layout: Shared::new(alloc, layout)?,
             parts,
-            vertices: Shared::new(alloc, vertices)?,
-            edges: Shared::new(alloc, edges)?,
+            vertices,
+            edges,
         })
     }
 
@@ -105,10 +165,25 @@ impl Snapshot {
     {
         Ok(Snapshot {
             layout: self.layout.share()?,
-            parts: share_all(alloc, &self.parts)?,
-            vertices: self.vertices.share()?,
-            edges: self.edges.share()?,
+            parts: share_parts(alloc, self.parts.as_slice())?,
+            vertices: share_indexes(alloc, self.vertices.as_slice())?,
+            edges: share_indexes(alloc, self.edges.as_slice())?,
         })
+    }
+
+    /// One more holder of the index of the keys that a slot holds, where they are those of a table.
+    pub(crate) fn shared_index(&self, slot: u32) -> Result<Option<Shared<TableIndex>>, NoMemory>
+        requires { slot < length (slots self.now.schema) }
+        ensures { IfOk result (λ index. (keys : Items ℤ) → index ≡ Some keys → slice_get (graph_parts self.now) slot ≡ Some (longs keys)) }
+    {
+        self.sound();
+        match self.slot_name(slot) {
+            SlotName::VertexKey(table) => {
+                Ok(Some(self.vertices.as_slice()[table as usize].share()?))
+            }
+            SlotName::EdgeKey(table) => Ok(Some(self.edges.as_slice()[table as usize].share()?)),
+            _ => Ok(None),
+        }
     }
 
     /// The graph as lists of rows.
@@ -160,7 +235,7 @@ impl Snapshot {
     }
 
     /// The number of the slot of a name.
-    fn number(&self, name: SlotName) -> u32
+    pub fn number(&self, name: SlotName) -> u32
         requires { HasSlot self.now.schema name }
         ensures { result ≡ slot_number self.now.schema name }
     {
@@ -168,15 +243,15 @@ impl Snapshot {
     }
 
     /// What the slot of a name holds.
-    fn part_of(&self, name: SlotName) -> &Part
+    pub fn part_of(&self, name: SlotName) -> &Part
         requires { HasSlot self.now.schema name }
         ensures { result.now ≡ slot_value self.now name }
     {
         self.part(self.number(name))
     }
 
-    /// The column of a slot.
-    fn column(&self, name: SlotName) -> &Column
+    /// The column of a slot. A caller that reads many of its cells asks for it once.
+    pub fn column(&self, name: SlotName) -> &Column
         requires known { HasSlot self.now.schema name }
         requires column { is_column name ≡ true }
         ensures { slot_value self.now name ≡ CellsOf result.now }
@@ -187,16 +262,25 @@ impl Snapshot {
         }
     }
 
+    /// The rows of a slot that holds rows.
+    pub fn rows(&self, name: SlotName) -> &Rows
+        requires known { HasSlot self.now.schema name }
+        requires rows { is_column name ≡ false }
+        ensures { slot_value self.now name ≡ RowsOf result.now }
+    {
+        match self.part_of(name) {
+            Part::Rows(rows) => rows.get(),
+            Part::Cells(_) => unreachable!(),
+        }
+    }
+
     /// The row of a vertex in a slot that holds rows.
     fn row_of(&self, name: SlotName, place: u32) -> &[u32]
         requires known { HasSlot self.now.schema name }
         requires rows { is_column name ≡ false }
         ensures { result.now ≡ places_of (ends_of self.now name) place }
     {
-        match self.part_of(name) {
-            Part::Rows(rows) => rows.get().row(place),
-            Part::Cells(_) => unreachable!(),
-        }
+        self.rows(name).row(place)
     }
 
     /// How many vertices a table has.
@@ -215,13 +299,45 @@ impl Snapshot {
         self.column(SlotName::EdgeKey(table)).len()
     }
 
+    /// The keys of a vertex table, as they lie in memory.
+    pub fn vertex_keys(&self, table: u32) -> &[i64]
+        requires { table < length self.now.schema.vertices }
+        ensures { result.now ≡ vertex_keys_at self.now table }
+    {
+        key_slice(self.column(SlotName::VertexKey(table)))
+    }
+
+    /// The keys of an edge table, as they lie in memory.
+    pub fn edge_keys(&self, table: u32) -> &[i64]
+        requires { table < length self.now.schema.edges }
+        ensures { result.now ≡ edge_keys_at self.now table }
+    {
+        key_slice(self.column(SlotName::EdgeKey(table)))
+    }
+
+    /// For each edge of a table the place where it starts, as they lie in memory.
+    pub fn source_places(&self, table: u32) -> &[i32]
+        requires { table < length self.now.schema.edges }
+        ensures { result.now ≡ map pos (source_places self.now table) }
+    {
+        place_slice(self.column(SlotName::Source(table)))
+    }
+
+    /// For each edge of a table the place where it ends, as they lie in memory.
+    pub fn destination_places(&self, table: u32) -> &[i32]
+        requires { table < length self.now.schema.edges }
+        ensures { result.now ≡ map pos (destination_places self.now table) }
+    {
+        place_slice(self.column(SlotName::Destination(table)))
+    }
+
     /// The key of a vertex.
     pub fn vertex_key(&self, at: VertexAt) -> i64
         requires { HasVertex self.now at }
         ensures { slice_get (vertex_keys_at self.now at.table) at.place ≡ Some result }
     {
         self.sound();
-        key_at(self.column(SlotName::VertexKey(at.table)), at.place)
+        self.vertex_keys(at.table)[at.place as usize]
     }
 
     /// The key of an edge.
@@ -230,7 +346,7 @@ impl Snapshot {
         ensures { slice_get (edge_keys_at self.now at.table) at.place ≡ Some result }
     {
         self.sound();
-        key_at(self.column(SlotName::EdgeKey(at.table)), at.place)
+        self.edge_keys(at.table)[at.place as usize]
     }
 
     /// The value of a property of a vertex.
@@ -311,29 +427,55 @@ impl Snapshot {
         self.row_of(SlotName::Into(edges), at.place)
     }
 
-    /// Where the vertex of a key stands. None exactly where no vertex has the key.
+    /// Where the vertex of a key stands: of those in several tables the one of least position. None exactly where no vertex
+    /// has the key.
     pub fn vertex_of_key(&self, key: i64) -> Option<VertexAt>
         ensures found { IfSome result (λ at. slice_get (vertex_keys_at self.now at.table) at.place ≡ Some key) }
+        ensures least { IfSome result (λ at. IsLeast (vertex_keys_at self.now) key at.table at.place) }
         ensures within { IfSome result (λ at. HasVertex self.now at) }
         ensures missing { IsNone result ↔ (has_vertex key self.now.vertices ≡ false) }
     {
-        let row = self.vertices.get().find(key)?;
-        Some(VertexAt {
-            table: row.table,
-            place: row.place,
-        })
+        self.sound();
+        let (table, place) = first_row(self.vertices.as_slice(), key)?;
+        Some(VertexAt { table, place })
     }
 
-    /// Where the edge of a key stands. None exactly where no edge has the key.
+    /// Where the edge of a key stands: of those in several tables the one of least position. None exactly where no edge has
+    /// the key.
     pub fn edge_of_key(&self, key: i64) -> Option<EdgeAt>
         ensures found { IfSome result (λ at. slice_get (edge_keys_at self.now at.table) at.place ≡ Some key) }
+        ensures least { IfSome result (λ at. IsLeast (edge_keys_at self.now) key at.table at.place) }
         ensures within { IfSome result (λ at. HasEdge self.now at) }
         ensures missing { IsNone result ↔ (has_edge key self.now.edges ≡ false) }
     {
-        let row = self.edges.get().find(key)?;
-        Some(EdgeAt {
-            table: row.table,
-            place: row.place,
-        })
+        self.sound();
+        let (table, place) = first_row(self.edges.as_slice(), key)?;
+        Some(EdgeAt { table, place })
+    }
+
+    /// Where the vertex of a key stands in a table. None exactly where no vertex of the table has the key.
+    pub fn vertex_in(&self, table: u32, key: i64) -> Option<VertexAt>
+        requires { table < length self.now.schema.vertices }
+        ensures table { IfSome result (λ at. at.table ≡ table) }
+        ensures found { IfSome result (λ at. slice_get (vertex_keys_at self.now table) at.place ≡ Some key) }
+        ensures within { IfSome result (λ at. HasVertex self.now at) }
+        ensures missing { IsNone result ↔ (has_vertex_in key (rows_at self.now.vertices table) ≡ false) }
+    {
+        self.sound();
+        let place = self.vertices.as_slice()[table as usize].get().find(key)?;
+        Some(VertexAt { table, place })
+    }
+
+    /// Where the edge of a key stands in a table. None exactly where no edge of the table has the key.
+    pub fn edge_in(&self, table: u32, key: i64) -> Option<EdgeAt>
+        requires { table < length self.now.schema.edges }
+        ensures table { IfSome result (λ at. at.table ≡ table) }
+        ensures found { IfSome result (λ at. slice_get (edge_keys_at self.now table) at.place ≡ Some key) }
+        ensures within { IfSome result (λ at. HasEdge self.now at) }
+        ensures missing { IsNone result ↔ (has_edge_in key (rows_at self.now.edges table) ≡ false) }
+    {
+        self.sound();
+        let place = self.edges.as_slice()[table as usize].get().find(key)?;
+        Some(EdgeAt { table, place })
     }
 }

@@ -1,9 +1,0 @@
-pub mod Positions
-pub mod KeyCells
-pub mod Standing
-pub mod EndPlaces
-pub mod PropParts
-pub mod Tables
-pub mod GraphTables
-pub mod SlotColumns
-pub mod FirstRows
