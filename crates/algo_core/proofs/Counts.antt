@@ -1,13 +1,15 @@
 -- counts of edge ends
-use Rattle.std.proofs.Common.{◌≡◌, ◌≢◌, ℕ, ◌+◌, ◌≤◌, Bool, true, false, cond, List, [], ◌∷◌, get_or, drop, map, refl, ap, sym, ◌∙◌, arith, if◌then◌else◌}
+use Rattle.std.proofs.Common.{◌≡◌, ◌≢◌, ℕ, ◌+◌, ◌≤◌, Bool, true, false, cond, List, [], ◌∷◌, get_or, drop, length, map, refl, ap, sym, ◌∙◌, arith, if◌then◌else◌}
 use Rattle.std.specs.Prelude.{count_by, sum_by, ◌&&◌, ◌==◌}
 use Rattle.std.proofs.lemmas.Bool.{and_parts, and_from, false≢true}
 use Rattle.std.proofs.lemmas.Bool.Decides.{nat_tests}
 use Rattle.std.proofs.lemmas.List.{get_or-drop, drop-drop}
-use Rattle.std.proofs.lemmas.List.Sums.{sum_by-cons}
+use Rattle.std.proofs.lemmas.List.Sums.{sum_by-cons, count_by-le-length}
 use Rattle.csr_rows.specs.Rows.{places_from, places_of}
-use Rattle.graph_net.specs.Net.{Net, leaving, entering, source_of, target_of}
-use Rattle.graph_net.specs.Cores.{ends_inside, is_inside}
+use Rattle.algo_digraph.specs.declared.arcs.Arc.{Arc}
+use Rattle.algo_digraph.specs.Digraph.{Digraph, leaving, entering, source_of, target_of}
+use Rattle.algo_digraph.specs.Arcs.{arc, out_arcs, in_arcs}
+use Rattle.algo_digraph.specs.Cores.{ends_inside, is_inside}
 
 -- ---- tests that count the same, fewer, or in two parts
 
@@ -79,15 +81,21 @@ last_in true false true h = refl
 last_in true b false h = absurd (false≢true (h refl))
 last_in false b c h = refl
 
-module _ (g : Net) (v : ℕ) where
+module _ (g : Digraph) (v : ℕ) where
   -- how often a vertex is a target of edges from v, or a source of edges to it
-  pub target_count : (w : ℕ) → count_by (λ x. x == w) (map (target_of g) (leaving g v)) ≡ count_by (λ p. (p.0 == v) && (p.1 == w)) g.edges
-  target_count w = count_mapped (λ x. x == w) (target_of g) (leaving g v) ∙ row_count g.edges (λ p. p.0) (λ p. p.1 == w) v
+  pub target_count : (w : ℕ) → count_by (λ x. x == w) (map (λ (a : Arc). a.vertex) (out_arcs g v)) ≡ count_by (λ p. (p.0 == v) && (p.1 == w)) g.edges
+  target_count w =
+      count_mapped (λ x. x == w) (λ (a : Arc). a.vertex) (out_arcs g v)
+      ∙ count_mapped (λ (a : Arc). a.vertex == w) (λ e. arc e (target_of g e)) (leaving g v)
+      ∙ row_count g.edges (λ p. p.0) (λ p. p.1 == w) v
 
-  pub source_count : (w : ℕ) → count_by (λ x. x == w) (map (source_of g) (entering g v)) ≡ count_by (λ p. (p.1 == v) && (p.0 == w)) g.edges
-  source_count w = count_mapped (λ x. x == w) (source_of g) (entering g v) ∙ row_count g.edges (λ p. p.1) (λ p. p.0 == w) v
+  pub source_count : (w : ℕ) → count_by (λ x. x == w) (map (λ (a : Arc). a.vertex) (in_arcs g v)) ≡ count_by (λ p. (p.1 == v) && (p.0 == w)) g.edges
+  source_count w =
+      count_mapped (λ x. x == w) (λ (a : Arc). a.vertex) (in_arcs g v)
+      ∙ count_mapped (λ (a : Arc). a.vertex == w) (λ e. arc e (source_of g e)) (entering g v)
+      ∙ row_count g.edges (λ p. p.1) (λ p. p.0 == w) v
 
-  -- the edge ends of a member of a set, counted along its rows
+  -- the edge ends of a member of a set, counted along its arcs
   module _ (set : ℕ → Bool) (in_set : set v ≡ true) where
     ahead : (p : ℕ × ℕ) → ((p.0 == v) && set p.1) ≡ ((p.0 == v) && is_inside set p)
     ahead p = first_in (p.0 == v) (set p.0) (set p.1) (λ e. let same : p.0 ≡ v = grind (arith, nat_tests) in ap set same ∙ in_set)
@@ -95,10 +103,12 @@ module _ (g : Net) (v : ℕ) where
     behind : (p : ℕ × ℕ) → ((p.1 == v) && set p.0) ≡ ((p.1 == v) && is_inside set p)
     behind p = last_in (p.1 == v) (set p.0) (set p.1) (λ e. let same : p.1 ≡ v = grind (arith, nat_tests) in ap set same ∙ in_set)
 
-    pub ends_by_rows : count_by (λ e. set (target_of g e)) (leaving g v) + count_by (λ e. set (source_of g e)) (entering g v) ≡ ends_inside g set v
-    ends_by_rows =
+    pub ends_by_arcs : count_by (λ a. set a.vertex) (out_arcs g v) + count_by (λ a. set a.vertex) (in_arcs g v) ≡ ends_inside g set v
+    ends_by_arcs =
         omega (
           arith,
+          count_mapped (λ (a : Arc). set a.vertex) (λ e. arc e (target_of g e)) (leaving g v),
+          count_mapped (λ (a : Arc). set a.vertex) (λ e. arc e (source_of g e)) (entering g v),
           row_count g.edges (λ p. p.0) (λ p. set p.1) v,
           row_count g.edges (λ p. p.1) (λ p. set p.0) v,
           count_same (λ p. (p.0 == v) && set p.1) (λ p. (p.0 == v) && is_inside set p) g.edges ahead,
@@ -108,7 +118,7 @@ module _ (g : Net) (v : ℕ) where
 -- ---- sets of vertices
 
 -- a larger set has no fewer edge ends
-module _ (g : Net) (small large : ℕ → Bool) (within : (u : ℕ) → small u ≡ true → large u ≡ true) where
+module _ (g : Digraph) (small large : ℕ → Bool) (within : (u : ℕ) → small u ≡ true → large u ≡ true) where
   inside_larger : (p : ℕ × ℕ) → is_inside small p ≡ true → is_inside large p ≡ true
   inside_larger p h = let a = and_parts (small p.0) (small p.1) h in and_from (large p.0) (large p.1) (within p.0 a.0) (within p.1 a.1)
 
@@ -141,7 +151,7 @@ second_in false false true h = absurd (omega (arith, h))
 second_in false false false h = refl
 
 -- a set without one of its vertices: another member's edge ends fall by the edges between the two
-module _ (g : Net) (whole rest : ℕ → Bool) (v w : ℕ) (apart : w ≢ v) (in_v : whole v ≡ true) (out_v : rest v ≡ false) (in_w : rest w ≡ true)
+module _ (g : Digraph) (whole rest : ℕ → Bool) (v w : ℕ) (apart : w ≢ v) (in_v : whole v ≡ true) (out_v : rest v ≡ false) (in_w : rest w ≡ true)
     (others : (u : ℕ) → u ≢ v → rest u ≡ whole u) where
   lost : (x : ℕ) (b : Bool) → (x == v) ≡ b → cond {A = ℕ} (whole x) 1 0 ≡ cond (rest x) 1 0 + cond (x == v) 1 0
   lost x true e = (let same : x ≡ v = grind (arith, nat_tests) in rw (e, ap whole same ∙ in_v, ap rest same ∙ out_v) refl)
@@ -171,3 +181,7 @@ module _ (g : Net) (whole rest : ℕ → Bool) (v w : ℕ) (apart : w ≢ v) (in
         count_parts (λ p. (p.0 == w) && is_inside whole p) (λ p. (p.0 == w) && is_inside rest p) (λ p. (p.1 == v) && (p.0 == w)) g.edges (λ p. ahead_lost p (p.0 == w) refl),
         count_parts (λ p. (p.1 == w) && is_inside whole p) (λ p. (p.1 == w) && is_inside rest p) (λ p. (p.0 == v) && (p.1 == w)) g.edges (λ p. behind_lost p (p.1 == w) refl),
       )
+
+-- no vertex has more edge ends than all edges have
+pub ends_few : (g : Digraph) (set : ℕ → Bool) (v : ℕ) → ends_inside g set v ≤ length g.edges + length g.edges
+ends_few g set v = omega (arith, count_by-le-length (λ p. (p.0 == v) && is_inside set p) g.edges, count_by-le-length (λ p. (p.1 == v) && is_inside set p) g.edges)

@@ -4,12 +4,14 @@ use Rattle.std.specs.Prelude.{count_by, sum, is_some, Contains, ◌&&◌, ◌==�
 use Rattle.std.specs.Option.{is_none}
 use Rattle.std.proofs.lemmas.Bool.{cases_eq, cases_lt, false≢true}
 use Rattle.std.proofs.lemmas.Bool.Decides.{nat_tests}
-use Rattle.std.proofs.lemmas.List.{length-set, length_push, length-replicate, get_or-replicate, get_or_past, take_more, map-append}
+use Rattle.std.proofs.lemmas.List.{length-set, length_push, length-replicate, get_or-replicate, get_or_past, take_more}
 use Rattle.std.proofs.lemmas.List.Sums.{sum_by-append, sum_by-cons, sum_by-set}
 use Rattle.std.proofs.lemmas.List.Elements.{Contains-append_left, Contains-push, Contains-push_cases}
 use Rattle.std.proofs.lemmas.Option.{none-some, same_Some}
-use Rattle.graph_net.specs.Net.{Net, leaving, entering, source_of, target_of}
-use Rattle.graph_net.specs.Cores.{ends_inside, IsInCore, IsCoreNumber}
+use Rattle.algo_digraph.specs.declared.arcs.Arc.{Arc}
+use Rattle.algo_digraph.specs.Digraph.{Digraph}
+use Rattle.algo_digraph.specs.Arcs.{out_arcs, in_arcs}
+use Rattle.algo_digraph.specs.Cores.{ends_inside, IsInCore, IsCoreNumber}
 use Rattle.algo_core.specs.Peeling.{core_of, is_left, IsPeeling, IsLowering, IsNumbering}
 use Rattle.algo_core.proofs.Counts.{more_ends, ends_lost, target_count, source_count}
 
@@ -58,7 +60,7 @@ left_within cores v h =
 
 -- ---- the bounds of a number
 
-module _ (g : Net) (level : ℕ) (cores : List (Option ℕ)) (ends : List ℕ) (peeling : IsPeeling g level cores ends) where
+module _ (g : Digraph) (level : ℕ) (cores : List (Option ℕ)) (ends : List ℕ) (peeling : IsPeeling g level cores ends) where
   -- a set with more edge ends than the level has no vertex with at most so many
   pub no_more : (v : ℕ) → is_left cores v ≡ true → slice_index ends v ≤ level → (j : ℕ) → IsInCore g v j → j ≤ level
   no_more v here low j h =
@@ -94,7 +96,7 @@ module _ (g : Net) (level : ℕ) (cores : List (Option ℕ)) (ends : List ℕ) (
 
 -- ---- some of what is left gets its number
 
-module _ (g : Net) (level : ℕ) (cores new : List (Option ℕ)) (ends ends' : List ℕ) (Kind : ℕ → Type 0) (peeling : IsPeeling g level cores ends)
+module _ (g : Digraph) (level : ℕ) (cores new : List (Option ℕ)) (ends ends' : List ℕ) (Kind : ℕ → Type 0) (peeling : IsPeeling g level cores ends)
     (numbering : IsNumbering Kind level cores new) (low : (v : ℕ) → Kind v → slice_index ends v ≤ level) where
   pub left_before : (v : ℕ) → is_left new v ≡ true → is_left cores v ≡ true
   left_before v h =
@@ -292,15 +294,11 @@ module _ (cores : List (Option ℕ)) (level : ℕ) (xs ys : List ℕ) (old mid n
     work = omega (arith, two.work, one.work);
   }
 
--- one edge more of a row
-pub row_more : (f : ℕ → ℕ) (row : List ℕ) (i : ℕ) → i < length row → map f (take (i + 1) row) ≡ map f (take i row) ++ f (slice_index row i) ∷ []
-row_more f row i lt = ap (map f) (take_more row i 0 lt) ∙ map-append f (take i row) (slice_index row i ∷ [])
-
 -- ---- a vertex goes, and its neighbors' counts fall
 
-module _ (g : Net) (level v : ℕ) (cores : List (Option ℕ)) (ends ends' before after : List ℕ) (lt : v < length cores)
+module _ (g : Digraph) (level v : ℕ) (cores : List (Option ℕ)) (ends ends' before after : List ℕ) (lt : v < length cores)
     (peeling : IsPeeling g level cores ends) (free : core_of cores v ≡ None) (low : slice_index ends v ≤ level)
-    (lowering : IsLowering (set cores v (Some level)) level (map (target_of g) (leaving g v) ++ map (source_of g) (entering g v)) ends ends' before after) where
+    (lowering : IsLowering (set cores v (Some level)) level (map (λ (a : Arc). a.vertex) (out_arcs g v) ++ map (λ (a : Arc). a.vertex) (in_arcs g v)) ends ends' before after) where
   gone : is_left (set cores v (Some level)) v ≡ false
   gone = ap is_none (number_at level v cores lt)
 
@@ -308,10 +306,10 @@ module _ (g : Net) (level v : ℕ) (cores : List (Option ℕ)) (ends ends' befor
   others u ne = ap is_none (number_else level v cores lt u ne)
 
   -- how often a neighbor is listed
-  listed : (w : ℕ) → count_by (λ x. x == w) (map (target_of g) (leaving g v) ++ map (source_of g) (entering g v))
+  listed : (w : ℕ) → count_by (λ x. x == w) (map (λ (a : Arc). a.vertex) (out_arcs g v) ++ map (λ (a : Arc). a.vertex) (in_arcs g v))
       ≡ count_by (λ p. (p.0 == v) && (p.1 == w)) g.edges + count_by (λ p. (p.1 == v) && (p.0 == w)) g.edges
   listed w =
-      omega (arith, sum_by-append (λ x. cond (x == w) 1 0) (map (target_of g) (leaving g v)) (map (source_of g) (entering g v)), target_count g v w, source_count g v w)
+      omega (arith, sum_by-append (λ x. cond (x == w) 1 0) (map (λ (a : Arc). a.vertex) (out_arcs g v)) (map (λ (a : Arc). a.vertex) (in_arcs g v)), target_count g v w, source_count g v w)
 
   counted_on : (w : ℕ) → is_left (set cores v (Some level)) w ≡ true → slice_index ends' w ≡ ends_inside g (is_left (set cores v (Some level))) w
   counted_on w h =
@@ -332,7 +330,7 @@ module _ (g : Net) (level v : ℕ) (cores : List (Option ℕ)) (ends ends' befor
 
 -- ---- the start
 
-pub first_peeling : (g : Net) (ends : List ℕ) → length ends ≡ g.vertices → ((v : ℕ) → v < g.vertices → is_left (replicate g.vertices None) v ≡ true → slice_index ends v ≡ ends_inside g (is_left (replicate g.vertices None)) v)
+pub first_peeling : (g : Digraph) (ends : List ℕ) → length ends ≡ g.vertices → ((v : ℕ) → v < g.vertices → is_left (replicate g.vertices None) v ≡ true → slice_index ends v ≡ ends_inside g (is_left (replicate g.vertices None)) v)
     → IsPeeling g 0 (replicate g.vertices None) ends
 first_peeling g ends long each = record {
   long = length-replicate {A = Option ℕ} g.vertices None;

@@ -1,8 +1,8 @@
 -- Peeling: vertices get their core numbers, least first. No public contract names these words.
 use Rattle.std.specs.Prelude.{◌≡◌, ◌⊎◌, ℕ, ◌+◌, ◌-◌, ◌*◌, ◌<◌, ◌≤◌, ◌==◌, Bool, true, List, Option, Some, None, Contains, length, slice_index, slice_index_or, count_by, sum}
 use Rattle.std.specs.Option.{is_none}
-use Rattle.graph_net.specs.Net.{Net}
-use Rattle.graph_net.specs.Cores.{ends_inside, IsInCore, IsCoreNumber}
+use Rattle.algo_digraph.specs.Digraph.{Digraph}
+use Rattle.algo_digraph.specs.Cores.{ends_inside, IsInCore, IsCoreNumber}
 
 -- the core number of a vertex, if it has one yet
 abbrev pub core_of : List (Option ℕ) → ℕ → Option ℕ
@@ -14,7 +14,7 @@ is_left cores v = is_none (core_of cores v)
 
 -- each number is right, each vertex that is left has its count of edge ends among these, and they lie in cores of the level
 -- and are all that lies in a core of more
-pub record IsPeeling (g : Net) (level : ℕ) (cores : List (Option ℕ)) (ends : List ℕ) : Type 0 where
+pub record IsPeeling (g : Digraph) (level : ℕ) (cores : List (Option ℕ)) (ends : List ℕ) : Type 0 where
   pub long : length cores ≡ g.vertices
   pub counts : length ends ≡ g.vertices
   pub right : (v k : ℕ) → v < g.vertices → core_of cores v ≡ Some k → IsCoreNumber g v k

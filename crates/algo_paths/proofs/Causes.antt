@@ -8,8 +8,8 @@ use Rattle.std.proofs.Math.Seq.{drop-cons}
 use Rattle.graph_model.specs.declared.row.EdgeRow.{EdgeRow}
 use Rattle.graph_model.specs.Keys.{rows_at}
 use Rattle.graph_model.specs.Graph.{GraphData}
-use Rattle.graph_net.specs.NetOf.{all_edges}
-use Rattle.graph_net.proofs.Edges.{tables_more}
+use Rattle.algo_digraph.specs.DigraphOf.{all_edges}
+use Rattle.algo_digraph.proofs.Edges.{tables_more}
 use Rattle.algo_paths.specs.declared.fault.PathFault.{PathFault}
 use Rattle.algo_paths.specs.declared.fault.PathFault.TheVariants.{NoVertex, NoProp, BadWeight, NoMemory}
 use Rattle.algo_paths.specs.Weights.{edge_weight, AreWeights, IsFirstBad}

@@ -7,8 +7,8 @@ use Rattle.std.proofs.lemmas.List.{length-set, get_or_past}
 use Rattle.std.proofs.lemmas.List.Sums.{sum_by-cons, sum_by-set, sum_by-append}
 use Rattle.std.proofs.lemmas.List.Sorted.{Contains-permutation, IsPermutation-sym, length_permutation}
 use Rattle.std.proofs.Math.Seq.{drop-cons}
-use Rattle.graph_net.specs.Net.{Net, Goes, IsClosed}
-use Rattle.graph_net.specs.Walks.{IsWalk, weight_of}
+use Rattle.algo_digraph.specs.Digraph.{Digraph, Goes, IsClosed}
+use Rattle.algo_digraph.specs.Walks.{IsWalk, weight_of}
 use Rattle.algo_paths.specs.Search.{entry_of, IsRelaxed, IsCovered, ComesFrom, IsProgress, IsRelaxing, IsOffer, IsNextBest}
 
 -- ---- lists with one item before the others
@@ -82,7 +82,7 @@ module _ (w weight : ℕ) (best : List ℕ) (before after : List (ℕ × ℕ)) (
 
 -- ---- a vertex that is relaxed, edge by edge
 
-pub relaxing_none : (g : Net) (weights : List ℕ) (v : ℕ) (best : List ℕ) (queue : List (ℕ × ℕ)) → IsRelaxing g weights v best best queue queue
+pub relaxing_none : (g : Digraph) (weights : List ℕ) (v : ℕ) (best : List ℕ) (queue : List (ℕ × ℕ)) → IsRelaxing g weights v best best queue queue
 relaxing_none g weights v best queue = record {
   long = refl;
   lower = λ w. omega arith;
@@ -92,7 +92,7 @@ relaxing_none g weights v best queue = record {
   work = omega arith;
 }
 
-module _ (g : Net) (weights : List ℕ) (v e w weight : ℕ) (old mid new : List ℕ) (before between after : List (ℕ × ℕ))
+module _ (g : Digraph) (weights : List ℕ) (v e w weight : ℕ) (old mid new : List ℕ) (before between after : List (ℕ × ℕ))
     (sofar : IsRelaxing g weights v old mid before between) (one : IsOffer w weight mid new between after)
     (goes : Goes g e v w) (closed : IsClosed g) (is : weight ≡ slice_index old v + slice_index weights e) where
   better_one : (u : ℕ) → (slice_index new u ≡ slice_index mid u) ⊎ (Contains after (entry_of new u) × (u ≡ w) × (slice_index new u ≡ weight))
@@ -120,7 +120,7 @@ module _ (g : Net) (weights : List ℕ) (v e w weight : ℕ) (old mid new : List
 
 -- ---- a wave, vertex by vertex
 
-pub progress_none : (g : Net) (weights wave best : List ℕ) (queue : List (ℕ × ℕ)) → IsProgress g weights wave wave best best queue queue
+pub progress_none : (g : Digraph) (weights wave best : List ℕ) (queue : List (ℕ × ℕ)) → IsProgress g weights wave wave best best queue queue
 progress_none g weights wave best queue = record {
   long = refl;
   lower = λ w. omega arith;
@@ -139,7 +139,7 @@ pub drop_more : (xs : List ℕ) (i : ℕ) → i < length xs → drop i xs ≡ sl
 drop_more xs i lt = drop-cons xs i 0 lt ∙ ap (λ k. slice_index xs i ∷ drop k xs) (let e : suc i ≡ i + 1 = omega arith in e)
 
 -- walks one after another
-pub walk_then : (g : Net) (a b c : ℕ) (es fs : List ℕ) → IsWalk g a es b → IsWalk g b fs c → IsWalk g a (es ++ fs) c
+pub walk_then : (g : Digraph) (a b c : ℕ) (es fs : List ℕ) → IsWalk g a es b → IsWalk g b fs c → IsWalk g a (es ++ fs) c
 walk_then g a b c [] fs w x = subst (λ y. IsWalk g y fs c) (sym w) x
 walk_then g a b c (e ∷ es) fs w x = (w.0, w.1, walk_then g w.0 b c es fs w.2 x)
 
@@ -147,7 +147,7 @@ pub weight_then : (weights es fs : List ℕ) → weight_of weights (es ++ fs) �
 weight_then weights es fs = sum_by-append (slice_index weights) es fs
 
 -- a weight of a weight is a weight
-pub comes_then : (g : Net) (weights old mid : List ℕ) (w r : ℕ) → ((u : ℕ) → u < g.vertices → ComesFrom g weights old u (slice_index mid u))
+pub comes_then : (g : Digraph) (weights old mid : List ℕ) (w r : ℕ) → ((u : ℕ) → u < g.vertices → ComesFrom g weights old u (slice_index mid u))
     → ((u : ℕ) (es : List ℕ) → w < g.vertices → IsWalk g u es w → u < g.vertices) → w < g.vertices → ComesFrom g weights mid w r → ComesFrom g weights old w r
 comes_then g weights old mid w r first starts lt h =
     let f = first h.0 (starts h.0 h.1 lt h.2) in (
@@ -158,11 +158,11 @@ comes_then g weights old mid w r first starts lt h =
     )
 
 -- a walk to a vertex starts at a vertex
-pub starts_in : (g : Net) → IsClosed g → (u w : ℕ) (es : List ℕ) → w < g.vertices → IsWalk g u es w → u < g.vertices
+pub starts_in : (g : Digraph) → IsClosed g → (u w : ℕ) (es : List ℕ) → w < g.vertices → IsWalk g u es w → u < g.vertices
 starts_in g closed u w [] lt h = subst (λ x. x < g.vertices) (sym h) lt
 starts_in g closed u w (e ∷ es) lt h = (closed e u h.0 h.1).0
 
-module _ (g : Net) (closed : IsClosed g) (weights : List ℕ) (v : ℕ) (rest : List ℕ) (old new : List ℕ) (before after : List (ℕ × ℕ))
+module _ (g : Digraph) (closed : IsClosed g) (weights : List ℕ) (v : ℕ) (rest : List ℕ) (old new : List ℕ) (before after : List (ℕ × ℕ))
     (one : IsRelaxing g weights v old new before after)
     (done : (e w : ℕ) → Goes g e v w → slice_index new w ≤ slice_index old v + slice_index weights e) where
   comes : (w : ℕ) → (slice_index new w ≡ slice_index old w)
@@ -204,7 +204,7 @@ module _ (g : Net) (closed : IsClosed g) (weights : List ℕ) (v : ℕ) (rest : 
     work = one.work;
   }
 
-module _ (g : Net) (closed : IsClosed g) (weights : List ℕ) (wave between_wave left : List ℕ) (old mid new : List ℕ) (before between after : List (ℕ × ℕ))
+module _ (g : Digraph) (closed : IsClosed g) (weights : List ℕ) (wave between_wave left : List ℕ) (old mid new : List ℕ) (before between after : List (ℕ × ℕ))
     (one : IsProgress g weights wave between_wave old mid before between) (two : IsProgress g weights between_wave left mid new between after) where
   cover_then : (v : ℕ) → v < g.vertices → IsCovered g weights old before wave v ⊎ (slice_index new v < slice_index old v) → IsCovered g weights new after left v
   cover_then v lt (inl was) = two.covered v lt (inl (one.covered v lt (inl was)))
@@ -230,7 +230,7 @@ module _ (g : Net) (closed : IsClosed g) (weights : List ℕ) (wave between_wave
 
 -- ---- a wave at once
 
-module _ (g : Net) (weights : List ℕ) (wave : List ℕ) (old new : List ℕ) (before after : List (ℕ × ℕ)) (olds : length old ≡ g.vertices) (news : length new ≡ g.vertices)
+module _ (g : Digraph) (weights : List ℕ) (wave : List ℕ) (old new : List ℕ) (before after : List (ℕ × ℕ)) (olds : length old ≡ g.vertices) (news : length new ≡ g.vertices)
     (each : (v : ℕ) → v < g.vertices → IsNextBest g weights old v (slice_index new v)) where
   pub round_lower : (w : ℕ) → slice_index new w ≤ slice_index old w
   round_lower w =

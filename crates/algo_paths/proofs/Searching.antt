@@ -6,8 +6,8 @@ use Rattle.std.proofs.lemmas.List.{length-set, length-replicate, get_or-replicat
 use Rattle.std.proofs.lemmas.List.Sums.{sum_by-cons}
 use Rattle.std.specs.List.Sorted.{IsPermutation}
 use Rattle.std.proofs.lemmas.List.Sorted.{Contains-permutation, IsPermutation-sym}
-use Rattle.graph_net.specs.Net.{Net, Goes, IsClosed}
-use Rattle.graph_net.specs.Walks.{IsWalk, IsLeastWeight, weight_of}
+use Rattle.algo_digraph.specs.Digraph.{Digraph, Goes, IsClosed}
+use Rattle.algo_digraph.specs.Walks.{IsWalk, IsLeastWeight, weight_of}
 use Rattle.algo_paths.specs.Search.{entry_of, IsRelaxed, IsCovered, IsProgress, IsSearch, IsTold}
 use Rattle.algo_paths.proofs.Relaxing.{here, here_or_there, walk_then, weight_then}
 
@@ -36,7 +36,7 @@ module _ (n from : ℕ) (lt : from < n) where
         | inr past ↦ (let z : slice_index (set (replicate n (2 ^ 63)) from 0) v ≡ 0 = get_or_past (set (replicate n (2 ^ 63)) from 0) v 0 (omega (arith, first_len)) in omega (arith, z))
       ]
 
-module _ (g : Net) (weights : List ℕ) (from : ℕ) (lt : from < g.vertices) where
+module _ (g : Digraph) (weights : List ℕ) (from : ℕ) (lt : from < g.vertices) where
   is_from : (v : ℕ) → v < g.vertices → slice_index (set (replicate g.vertices (2 ^ 63)) from 0) v < 2 ^ 63 → v ≡ from
   is_from v inside small =
       elim (cases_eq v from) [
@@ -67,12 +67,12 @@ module _ (g : Net) (weights : List ℕ) (from : ℕ) (lt : from < g.vertices) wh
       })
 
 -- the order of the queue does not matter
-reordered : (g : Net) (weights best : List ℕ) (queue other : List (ℕ × ℕ)) (v : ℕ) → IsPermutation queue other → IsCovered g weights best queue [] v → IsCovered g weights best other [] v
+reordered : (g : Digraph) (weights best : List ℕ) (queue other : List (ℕ × ℕ)) (v : ℕ) → IsPermutation queue other → IsCovered g weights best queue [] v → IsCovered g weights best other [] v
 reordered g weights best queue other v p (inl (inl entry)) = inl (inl (Contains-permutation queue other (entry_of best v) p entry))
 reordered g weights best queue other v p (inl (inr none)) = absurd (omega (arith, none.1))
 reordered g weights best queue other v p (inr done) = inr done
 
-pub search_reordered : (g : Net) (weights : List ℕ) (from : ℕ) (best : List ℕ) (queue other : List (ℕ × ℕ)) → IsPermutation queue other → IsSearch g weights from best queue → IsSearch g weights from best other
+pub search_reordered : (g : Digraph) (weights : List ℕ) (from : ℕ) (best : List ℕ) (queue other : List (ℕ × ℕ)) → IsPermutation queue other → IsSearch g weights from best queue → IsSearch g weights from best other
 search_reordered g weights from best queue other p s = record {
   long = s.long;
   low = s.low;
@@ -84,7 +84,7 @@ search_reordered g weights from best queue other p s = record {
 
 -- ---- one wave
 
-module _ (g : Net) (weights : List ℕ) (from : ℕ) (best new wave : List ℕ) (queue before after : List (ℕ × ℕ))
+module _ (g : Digraph) (weights : List ℕ) (from : ℕ) (best new wave : List ℕ) (queue before after : List (ℕ × ℕ))
     (search : IsSearch g weights from best queue) (start_in : from < g.vertices)
     (kept : (x : ℕ × ℕ) → Contains queue x → x ≡ entry_of best x.1 → Contains before x ⊎ Contains wave x.1)
     (left : (x : ℕ × ℕ) → Contains before x → Contains queue x)
@@ -123,7 +123,7 @@ module _ (g : Net) (weights : List ℕ) (from : ℕ) (best new wave : List ℕ) 
 
 -- ---- the end
 
-module _ (g : Net) (closed : IsClosed g) (weights : List ℕ) (from : ℕ) (best : List ℕ) (search : IsSearch g weights from best []) (start_in : from < g.vertices) where
+module _ (g : Digraph) (closed : IsClosed g) (weights : List ℕ) (from : ℕ) (best : List ℕ) (search : IsSearch g weights from best []) (start_in : from < g.vertices) where
   relaxed : (v : ℕ) → IsCovered g weights best [] [] v → IsRelaxed g weights best v
   relaxed v (inl (inl none)) = absurd (omega (arith, none.1))
   relaxed v (inl (inr none)) = absurd (omega (arith, none.1))

@@ -2,10 +2,10 @@
 use Rattle.std.specs.Prelude.{◌≡◌, ℕ, ℤ, ◌<◌, true, false, List, Option, Some, None, slice_get, slice_index_or}
 use Rattle.graph_model.specs.declared.row.EdgeRow.{EdgeRow}
 use Rattle.graph_model.specs.Graph.{GraphData, has_vertex, vertex_total}
-use Rattle.graph_snap.specs.declared.position.VertexAt.{VertexAt}
+use Rattle.graph_columns.specs.declared.position.VertexAt.{VertexAt}
 use Rattle.graph_snap.specs.Reading.{vertex_keys_at}
-use Rattle.graph_net.specs.NetOf.{all_edges, net_of, table_sizes, index_of}
-use Rattle.graph_net.specs.Walks.{IsLeastWeight}
+use Rattle.algo_digraph.specs.DigraphOf.{all_edges, digraph_of, table_sizes, index_of}
+use Rattle.algo_digraph.specs.Walks.{IsLeastWeight}
 use Rattle.algo_paths.specs.declared.fault.PathFault.{PathFault}
 use Rattle.algo_paths.specs.declared.fault.PathFault.TheVariants.{NoVertex, NoProp, BadWeight, NoMemory}
 use Rattle.algo_paths.specs.Weights.{has_weight, edge_weight, AreWeights, IsFirstBad}
@@ -29,4 +29,4 @@ pub record IsAnswer (g : GraphData) (from : ℤ) (name : List ℕ) (found : List
   pub start : slice_get (vertex_keys_at g at.table) at.place ≡ Some from
   pub weights : List ℕ
   pub are : AreWeights (edge_weight name g) (all_edges g) weights
-  pub least : (v : ℕ) → v < vertex_total g → IsLeastWeight (net_of g) weights (index_of (table_sizes g) at) v (slice_index_or found v None)
+  pub least : (v : ℕ) → v < vertex_total g → IsLeastWeight (digraph_of g) weights (index_of (table_sizes g) at) v (slice_index_or found v None)

@@ -6,9 +6,10 @@
 //! The search takes the vertices in waves, nearest first, all that are equally near in one wave. A wave with few vertices
 //! offers their neighbors the weights by way of them; a wave that has at least a sixteenth of all vertices is done by one
 //! round in which each vertex takes the least of what its neighbors offer, by several threads. A vertex is in no wave twice, so
-//! the work is that of the edges and of the queue. The values do not depend on the number of workers.
+//! the work is meant to be that of the edges and of the queue. No clause speaks of time, and no test: it is measured, in
+//! docs/PERFORMANCE.md. The values do not depend on the number of workers.
 //!
-//! What a least weight is stands in `graph_net`: `specs/Walks.antt` and, for the net of a graph, `specs/NetOf.antt`.
+//! What a least weight is stands in `algo_digraph`: `specs/Walks.antt` and, for the digraph of a graph, `specs/DigraphOf.antt`.
 #![tactic(auto)]
 
 mod fault;

@@ -4,8 +4,8 @@ ghost use Rattle.std.specs.BinaryHeap.{heap_items};
 ghost use Rattle.algo_paths.specs.Search.{entry_of, IsProgress, IsNextBest};
 
 use crate::queue::enqueue;
+use algo_digraph::FlatDigraph;
 use column_types::{List, NoMemory};
-use graph_net::FlatNet;
 use par_rounds::round;
 use std::alloc::Global;
 use std::collections::BinaryHeap;
@@ -15,21 +15,26 @@ use std::thread::Threads;
 pub(crate) fn wide_wave<R: Threads + Sync>(
     rt: &R,
     alloc: Global,
-    net: &FlatNet,
+    digraph: &FlatDigraph<'_>,
     weights: &[u64],
     best: &mut List<u64>,
     queue: &mut BinaryHeap<(u64, u32)>,
     workers: u32,
 ) -> Result<(), NoMemory>
-    requires weights { length weights.now ≡ length net.now.edges }
+    requires weights { length weights.now ≡ length digraph.now.edges }
     requires fit { All (λ w. w < 2 ^ 63) weights.now }
-    requires long { length best.old ≡ net.now.vertices }
+    requires long { length best.old ≡ digraph.now.vertices }
     requires low { (v : ℕ) → slice_index best.old v ≤ 2 ^ 63 }
     requires workers { (1 ≤ workers) × (workers ≤ 64) }
-    ensures { OnOk result ((wave : Items ℕ) → IsProgress net.now weights.now wave [] best.old best.new (heap_items queue.old) (heap_items queue.new)) }
+    ensures { OnOk result ((wave : Items ℕ) → IsProgress digraph.now weights.now wave [] best.old best.new (heap_items queue.old) (heap_items queue.new)) }
 {
-    let next = weight_round(rt, alloc, net, weights, best.as_slice(), workers)?;
-    queue_better(queue, net.vertex_count(), best.as_slice(), next.as_slice())?;
+    let next = weight_round(rt, alloc, digraph, weights, best.as_slice(), workers)?;
+    queue_better(
+        queue,
+        digraph.vertex_count(),
+        best.as_slice(),
+        next.as_slice(),
+    )?;
     *best = next;
     Ok(())
 }
@@ -74,45 +79,44 @@ fn queue_one(queue: &mut BinaryHeap<(u64, u32)>, v: u32, old: u64, new: u64) -> 
 fn weight_round<R: Threads + Sync>(
     rt: &R,
     alloc: Global,
-    net: &FlatNet,
+    digraph: &FlatDigraph<'_>,
     weights: &[u64],
     best: &[u64],
     workers: u32,
 ) -> Result<List<u64>, NoMemory>
-    requires weights { length weights.now ≡ length net.now.edges }
+    requires weights { length weights.now ≡ length digraph.now.edges }
     requires fit { All (λ w. w < 2 ^ 63) weights.now }
-    requires long { length best.now ≡ net.now.vertices }
+    requires long { length best.now ≡ digraph.now.vertices }
     requires low { (v : ℕ) → slice_index best.now v ≤ 2 ^ 63 }
     requires workers { (1 ≤ workers) × (workers ≤ 64) }
-    ensures len { IfOk result (λ next. length next ≡ net.now.vertices) }
-    ensures each { IfOk result (λ next. (v : ℕ) → v < net.now.vertices → IsNextBest net.now weights.now best.now v (slice_index next v)) }
+    ensures len { IfOk result (λ next. length next ≡ digraph.now.vertices) }
+    ensures each { IfOk result (λ next. (v : ℕ) → v < digraph.now.vertices → IsNextBest digraph.now weights.now best.now v (slice_index next v)) }
 {
     round(
         rt,
         alloc,
         workers,
-        net.vertex_count(),
+        digraph.vertex_count(),
         |v: u32| -> u64
-            requires { (v < net.now.vertices) × (length weights.now ≡ length net.now.edges) × (All (λ w. w < 2 ^ 63) weights.now)
-                × (length best.now ≡ net.now.vertices) × ((u : ℕ) → slice_index best.now u ≤ 2 ^ 63) }
-            ensures { IsNextBest net.entry.now weights.entry.now best.entry.now v result }
-        { next_best(net, weights, best, v) },
+            requires { (v < digraph.now.vertices) × (length weights.now ≡ length digraph.now.edges) × (All (λ w. w < 2 ^ 63) weights.now)
+                × (length best.now ≡ digraph.now.vertices) × ((u : ℕ) → slice_index best.now u ≤ 2 ^ 63) }
+            ensures { IsNextBest digraph.entry.now weights.entry.now best.entry.now v result }
+        { next_best(digraph, weights, best, v) },
     )
 }
 
 /// The least of a vertex's weight and those by way of the edges that enter it.
-fn next_best(net: &FlatNet, weights: &[u64], best: &[u64], v: u32) -> u64
-    requires vertex { v < net.now.vertices }
-    requires weights { length weights.now ≡ length net.now.edges }
+fn next_best(digraph: &FlatDigraph<'_>, weights: &[u64], best: &[u64], v: u32) -> u64
+    requires vertex { v < digraph.now.vertices }
+    requires weights { length weights.now ≡ length digraph.now.edges }
     requires fit { All (λ w. w < 2 ^ 63) weights.now }
-    requires long { length best.now ≡ net.now.vertices }
+    requires long { length best.now ≡ digraph.now.vertices }
     requires low { (u : ℕ) → slice_index best.now u ≤ 2 ^ 63 }
-    ensures { IsNextBest net.now weights.now best.now v result }
+    ensures { IsNextBest digraph.now weights.now best.now v result }
 {
     let mut least = best[v as usize];
-    for edge in net.in_row(v) {
-        let source = net.source(*edge);
-        least = least.min(best[source as usize] + weights[*edge as usize]);
+    for arc in digraph.in_arcs(v) {
+        least = least.min(best[arc.vertex as usize] + weights[arc.edge as usize]);
     }
     least
 }

@@ -1,14 +1,14 @@
-//! Least weights over a net.
+//! Least weights over a digraph.
 ghost use Rattle.std.specs.Prelude.{◌≡◌, ℕ, ◌+◌, ◌*◌, ◌<◌, ◌≤◌, ◌^◌, IfOk, OnOk, All, Contains, None, [], length, slice_index, slice_index_or, replicate};
 ghost use Rattle.std.specs.BinaryHeap.{heap_items};
-ghost use Rattle.graph_net.specs.Walks.{IsLeastWeight};
+ghost use Rattle.algo_digraph.specs.Walks.{IsLeastWeight};
 ghost use Rattle.algo_paths.specs.Search.{IsProgress, IsTold};
 
 use crate::queue::{enqueue, next_wave};
 use crate::relax::narrow_wave;
 use crate::round::wide_wave;
+use algo_digraph::{FlatDigraph, is_wide};
 use column_types::{List, NoMemory};
-use graph_net::{FlatNet, is_wide};
 use std::alloc::Global;
 use std::collections::BinaryHeap;
 use std::thread::Threads;
@@ -17,23 +17,23 @@ use std::thread::Threads;
 pub(crate) const FAR: u64 = 9_223_372_036_854_775_808;
 
 /// For each vertex the least weight of a walk to it from the vertex `from`, where one is below 2 ^ 63. The weights are those of the edges, in order.
-pub(crate) fn net_least_weights<R: Threads + Sync>(
+pub(crate) fn digraph_least_weights<R: Threads + Sync>(
     rt: &R,
     alloc: Global,
-    net: &FlatNet,
+    digraph: &FlatDigraph<'_>,
     weights: &[u64],
     from: u32,
     workers: u32,
 ) -> Result<List<Option<i64>>, NoMemory>
-    requires from { from < net.now.vertices }
-    requires weights { length weights.now ≡ length net.now.edges }
+    requires from { from < digraph.now.vertices }
+    requires weights { length weights.now ≡ length digraph.now.edges }
     requires fit { All (λ w. w < 2 ^ 63) weights.now }
     requires workers { (1 ≤ workers) × (workers ≤ 64) }
-    ensures len { IfOk result (λ found. length found ≡ net.now.vertices) }
-    ensures each { IfOk result (λ found. (v : ℕ) → v < net.now.vertices
-        → IsLeastWeight net.now weights.now from v (slice_index_or found v None)) }
+    ensures len { IfOk result (λ found. length found ≡ digraph.now.vertices) }
+    ensures each { IfOk result (λ found. (v : ℕ) → v < digraph.now.vertices
+        → IsLeastWeight digraph.now weights.now from v (slice_index_or found v None)) }
 {
-    let mut best = no_weights(alloc, net.vertex_count())?;
+    let mut best = no_weights(alloc, digraph.vertex_count())?;
     best.set(from as usize, 0);
     let mut queue = BinaryHeap::new(alloc);
     enqueue(&mut queue, from, 0)?;
@@ -42,7 +42,7 @@ pub(crate) fn net_least_weights<R: Threads + Sync>(
         relax_wave(
             rt,
             alloc,
-            net,
+            digraph,
             weights,
             &mut best,
             &mut queue,
@@ -66,25 +66,25 @@ fn no_weights(alloc: Global, n: u32) -> Result<List<u64>, NoMemory>
 fn relax_wave<R: Threads + Sync>(
     rt: &R,
     alloc: Global,
-    net: &FlatNet,
+    digraph: &FlatDigraph<'_>,
     weights: &[u64],
     best: &mut List<u64>,
     queue: &mut BinaryHeap<(u64, u32)>,
     wave: &[u32],
     workers: u32,
 ) -> Result<(), NoMemory>
-    requires weights { length weights.now ≡ length net.now.edges }
+    requires weights { length weights.now ≡ length digraph.now.edges }
     requires fit { All (λ w. w < 2 ^ 63) weights.now }
-    requires long { length best.old ≡ net.now.vertices }
+    requires long { length best.old ≡ digraph.now.vertices }
     requires low { (v : ℕ) → slice_index best.old v ≤ 2 ^ 63 }
-    requires wave { (v : ℕ) → Contains wave.now v → v < net.now.vertices }
+    requires wave { (v : ℕ) → Contains wave.now v → v < digraph.now.vertices }
     requires workers { (1 ≤ workers) × (workers ≤ 64) }
-    ensures { OnOk result (IsProgress net.now weights.now wave.now [] best.old best.new (heap_items queue.old) (heap_items queue.new)) }
+    ensures { OnOk result (IsProgress digraph.now weights.now wave.now [] best.old best.new (heap_items queue.old) (heap_items queue.new)) }
 {
-    if is_wide(workers, wave.len(), net.vertex_count()) {
-        return wide_wave(rt, alloc, net, weights, best, queue, workers);
+    if is_wide(workers, wave.len(), digraph.vertex_count()) {
+        return wide_wave(rt, alloc, digraph, weights, best, queue, workers);
     }
-    narrow_wave(net, weights, best, queue, wave)
+    narrow_wave(digraph, weights, best, queue, wave)
 }
 
 /// The weights that are below the limit.

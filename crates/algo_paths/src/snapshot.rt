@@ -4,10 +4,10 @@ ghost use Rattle.graph_model.specs.Graph.{vertex_total};
 ghost use Rattle.algo_paths.specs.Answer.{IsCause, IsAnswer};
 
 use crate::PathFault;
-use crate::search::net_least_weights;
+use crate::search::digraph_least_weights;
 use crate::weights::{edge_weights, has_weight};
+use algo_digraph::{FlatDigraph, VertexOrder};
 use column_types::{List, Text};
-use graph_net::{FlatNet, VertexOrder};
 use graph_snap::Snapshot;
 use std::alloc::Global;
 use std::thread::Threads;
@@ -39,8 +39,8 @@ pub fn least_weights<R: Threads + Sync>(
     }
     let weights = edge_weights(alloc, on, weight)?;
     let order = VertexOrder::new(alloc, on)?;
-    let net = FlatNet::build(alloc, on, &order)?;
+    let digraph = FlatDigraph::new(alloc, on, &order)?;
     let start = order.index(at);
-    let found = net_least_weights(rt, alloc, &net, weights.as_slice(), start, workers)?;
+    let found = digraph_least_weights(rt, alloc, &digraph, weights.as_slice(), start, workers)?;
     Ok(found)
 }

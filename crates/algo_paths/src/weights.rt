@@ -7,7 +7,7 @@ ghost use Rattle.graph_model.specs.Graph.{edge_props_at};
 ghost use Rattle.graph_snap.specs.Reading.{HasEdge};
 ghost use Rattle.column_types.specs.Value.{cell_value};
 ghost use Rattle.graph_slots.specs.Meaning.{value_at};
-ghost use Rattle.graph_net.specs.NetOf.{all_edges};
+ghost use Rattle.algo_digraph.specs.DigraphOf.{all_edges};
 ghost use Rattle.algo_paths.specs.Weights.{is_named, is_whole, has_whole, has_weight, natural, weight_of_value, edge_weight, AreWeights};
 ghost use Rattle.algo_paths.specs.Reading.{ReadCause, TableCause, AddsWeights};
 

@@ -2,22 +2,22 @@
 use Rattle.std.proofs.Common.{◌≡◌, ◌≢◌, ℕ, ◌+◌, ◌<◌, ◌≤◌, ◌⊎◌, inl, inr, List, [], ◌∷◌, Option, Some, None, replicate, ap, sym, ◌∙◌, subst, arith}
 use Rattle.std.proofs.lemmas.Bool.{cases_lt}
 use Rattle.std.proofs.lemmas.Option.{none-some, same_Some}
-use Rattle.graph_net.specs.Net.{Net}
-use Rattle.graph_net.specs.Walks.{IsPath, AreConnected, IsLabel}
+use Rattle.algo_digraph.specs.Digraph.{Digraph}
+use Rattle.algo_digraph.specs.Walks.{IsPath, AreConnected, IsLabel}
 use Rattle.algo_reach.specs.Marks.{mark_of, IsLabelling, AreUniform}
 use Rattle.algo_reach.proofs.Marking.{marked_or_not, given_mark}
 use Rattle.algo_reach.proofs.Walking.{none_in}
-use Rattle.graph_net.proofs.Paths.{connected_back, connected_then}
+use Rattle.algo_digraph.proofs.Paths.{connected_back, connected_then}
 
 -- each label so far is right
-abbrev pub AreLabels : Net → List (Option ℕ) → Type 0
+abbrev pub AreLabels : Digraph → List (Option ℕ) → Type 0
 AreLabels g marks = (v d : ℕ) → mark_of marks v ≡ Some d → IsLabel g v d
 
-uniform_along : (g : Net) (marks : List (Option ℕ)) → AreUniform g marks → (a b d : ℕ) (es : List ℕ) → IsPath g a es b → mark_of marks a ≡ Some d → mark_of marks b ≡ Some d
+uniform_along : (g : Digraph) (marks : List (Option ℕ)) → AreUniform g marks → (a b d : ℕ) (es : List ℕ) → IsPath g a es b → mark_of marks a ≡ Some d → mark_of marks b ≡ Some d
 uniform_along g marks uniform a b d [] p h = ap (mark_of marks) (sym p) ∙ h
 uniform_along g marks uniform a b d (e ∷ es) p h = uniform_along g marks uniform p.0 b d es p.2 (uniform a d e p.0 h p.1)
 
-module _ (g : Net) (start : ℕ) (old new : List (Option ℕ)) (done : IsLabelling g start old new) (uniform : AreUniform g old) (right : AreLabels g old)
+module _ (g : Digraph) (start : ℕ) (old new : List (Option ℕ)) (done : IsLabelling g start old new) (uniform : AreUniform g old) (right : AreLabels g old)
     (first : (v : ℕ) → v < start → mark_of old v ≢ None) where
   -- no smaller index is connected to a start without a label
   least : mark_of old start ≡ None → (b : ℕ) → AreConnected g start b → start ≤ b
@@ -50,13 +50,13 @@ module _ (g : Net) (start : ℕ) (old new : List (Option ℕ)) (done : IsLabelli
       ]
 
 -- nothing is labelled at first
-pub none_labelled : (g : Net) (n : ℕ) → AreLabels g (replicate n None)
+pub none_labelled : (g : Digraph) (n : ℕ) → AreLabels g (replicate n None)
 none_labelled g n v d h = absurd (none-some d (sym (none_in n v) ∙ h))
 
-pub none_uniform : (g : Net) (n : ℕ) → AreUniform g (replicate n None)
+pub none_uniform : (g : Digraph) (n : ℕ) → AreUniform g (replicate n None)
 none_uniform g n v d e w h j = absurd (none-some d (sym (none_in n v) ∙ h))
 
 -- no vertex has the label of a start without one
-pub unused : (g : Net) (start : ℕ) (marks : List (Option ℕ)) → AreLabels g marks → AreUniform g marks → mark_of marks start ≡ None → (v : ℕ) → mark_of marks v ≢ Some start
+pub unused : (g : Digraph) (start : ℕ) (marks : List (Option ℕ)) → AreLabels g marks → AreUniform g marks → mark_of marks start ≡ None → (v : ℕ) → mark_of marks v ≢ Some start
 unused g start marks right uniform free v h =
     let path = (right v start h).0 in none-some start (sym free ∙ uniform_along g marks uniform v start start path.0 path.1 h)

@@ -5,8 +5,10 @@ use Rattle.std.proofs.lemmas.Bool.{cases_eq, cases_lt}
 use Rattle.std.proofs.lemmas.List.{length_push, length-set, get_or_past}
 use Rattle.std.proofs.lemmas.List.Sums.{sum_by-set, sum_by_more}
 use Rattle.std.proofs.lemmas.List.Elements.{Contains-append_left, Contains-push, Contains-push_cases}
-use Rattle.std.proofs.lemmas.Option.{none-some}
-use Rattle.algo_reach.specs.Marks.{mark_of, unmarked, IsMarking, IsPulled}
+use Rattle.std.proofs.lemmas.Option.{none-some, same_Some}
+use Rattle.algo_digraph.specs.Digraph.{Digraph}
+use Rattle.algo_digraph.specs.Walks.{Joins}
+use Rattle.algo_reach.specs.Marks.{mark_of, unmarked, HasSource, HasTarget, HasNeighbor, IsMarking, IsPulled}
 
 -- a vertex has a mark or none
 pub marked_or_not : (o : Option ℕ) → (o ≡ None) ⊎ ((d : ℕ) × (o ≡ Some d))
@@ -38,10 +40,20 @@ pub some_item : {X : Type 0} (xs : List X) → xs ≢ [] → 0 < length xs
 some_item [] ne = absurd (ne refl)
 some_item (x ∷ xs) ne = omega arith
 
--- a vertex without a mark that found a cause
-pub pulled_free : (Cause : Type 0) (mark d : ℕ) (s : Option ℕ) → s ≡ None → (d ≡ mark) × Cause → IsPulled Cause mark s (Some d)
-pulled_free Cause mark d None e h = h
-pulled_free Cause mark d (Some k) e h = cc
+-- what a round leaves of a vertex: its mark, the mark of a cause that it found, or none where there is no cause
+pub pulled_same : (Cause : Type 0) (mark : ℕ) (s r : Option ℕ) → s ≢ None → r ≡ s → IsPulled Cause mark s r
+pulled_same Cause mark None r ne e = absurd (ne refl)
+pulled_same Cause mark (Some d) r ne e = e
+
+pub pulled_got : (Cause : Type 0) (mark : ℕ) (s r : Option ℕ) → s ≡ None → r ≡ Some mark → Cause → IsPulled Cause mark s r
+pulled_got Cause mark (Some k) r none e cause = cc
+pulled_got Cause mark None None none e cause = cc
+pulled_got Cause mark None (Some d) none e cause = (same_Some d mark e, cause)
+
+pub pulled_not : (Cause : Type 0) (mark : ℕ) (s r : Option ℕ) → s ≡ None → r ≡ None → (Cause → ⊥) → IsPulled Cause mark s r
+pulled_not Cause mark (Some k) r none e not = cc
+pulled_not Cause mark None None none e not = not
+pulled_not Cause mark None (Some d) none e not = cc
 
 -- the vertices below i that have a mark now and had none before
 pub record IsNewUpTo (old new : List (Option ℕ)) (i : ℕ) (found : List ℕ) : Type 0 where
@@ -243,3 +255,11 @@ module _ (Cause : ℕ → Type 0) (mark : ℕ) (old new : List (Option ℕ)) (fo
   round_keeps v ne none =
       let had = given_mark (mark_of old v) ne in
       none-some had.0 (sym none ∙ pulled_kept (Cause v) v had.0 (mark_of old v) (mark_of new v) (each v (marked_within old v had.0 had.1)) had.1)
+
+-- a vertex that is neither a target nor a source of a marked one has no marked neighbor
+no_neighbor_by : (g : Digraph) (marks : List (Option ℕ)) (mark v e u : ℕ) → (HasSource g marks mark v → ⊥) → (HasTarget g marks mark v → ⊥) → Joins g e u v → mark_of marks u ≡ Some mark → ⊥
+no_neighbor_by g marks mark v e u source target (inl h) at = source (e, u, h, at)
+no_neighbor_by g marks mark v e u source target (inr h) at = target (e, u, h, at)
+
+pub no_neighbor : (g : Digraph) (marks : List (Option ℕ)) (mark v : ℕ) → (HasSource g marks mark v → ⊥) → (HasTarget g marks mark v → ⊥) → HasNeighbor g marks mark v → ⊥
+no_neighbor g marks mark v source target h = no_neighbor_by g marks mark v h.0 h.1 source target h.2 h.3

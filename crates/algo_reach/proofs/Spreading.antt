@@ -5,15 +5,15 @@ use Rattle.std.proofs.lemmas.Bool.{cases_eq}
 use Rattle.std.proofs.lemmas.List.{length-set}
 use Rattle.std.proofs.lemmas.List.Elements.{Contains-push, Contains-push_cases}
 use Rattle.std.proofs.lemmas.Option.{none-some}
-use Rattle.graph_net.specs.Net.{Net}
-use Rattle.graph_net.specs.Walks.{Joins, AreConnected}
-use Rattle.graph_net.proofs.Paths.{turned, connected_on}
+use Rattle.algo_digraph.specs.Digraph.{Digraph}
+use Rattle.algo_digraph.specs.Walks.{Joins, AreConnected}
+use Rattle.algo_digraph.proofs.Paths.{turned, connected_on}
 use Rattle.algo_reach.specs.Marks.{mark_of, HasNeighbor, IsMarking, IsSpreading, IsLabelling, AreUniform}
 use Rattle.algo_reach.proofs.Marking.{marked_or_not, still_marked}
 
 -- ---- the label at first
 
-module _ (g : Net) (start : ℕ) (old : List (Option ℕ)) (lt : start < length old) where
+module _ (g : Digraph) (start : ℕ) (old : List (Option ℕ)) (lt : start < length old) where
   labelled : List (Option ℕ)
   labelled = set old start (Some start)
 
@@ -23,7 +23,7 @@ module _ (g : Net) (start : ℕ) (old : List (Option ℕ)) (lt : start < length 
   pub label_else : (v : ℕ) → v ≢ start → mark_of (set old start (Some start)) v ≡ mark_of old v
   label_else v ne = get_or-set_other old start v (Some start) None ne
 
-pub first_spreading : (g : Net) (start : ℕ) (marks : List (Option ℕ)) → mark_of marks start ≡ Some start → ((v : ℕ) → mark_of marks v ≡ Some start → v ≡ start)
+pub first_spreading : (g : Digraph) (start : ℕ) (marks : List (Option ℕ)) → mark_of marks start ≡ Some start → ((v : ℕ) → mark_of marks v ≡ Some start → v ≡ start)
     → IsSpreading g start marks marks (start ∷ [])
 first_spreading g start marks at alone = record {
   long = refl;
@@ -40,7 +40,7 @@ first_spreading g start marks at alone = record {
 
 -- ---- one edge further
 
-module _ (g : Net) (start : ℕ) (old mid new : List (Option ℕ)) (frontier next : List ℕ) (sofar : IsSpreading g start old mid frontier)
+module _ (g : Digraph) (start : ℕ) (old mid new : List (Option ℕ)) (frontier next : List ℕ) (sofar : IsSpreading g start old mid frontier)
     (marking : IsMarking (HasNeighbor g mid start) start mid new [] next)
     (all : (e u w : ℕ) → Contains frontier u → Joins g e u w → mark_of new w ≢ None) where
   stays_or : (v : ℕ) → (mark_of mid v ≡ None) ⊎ (mark_of mid v ≡ Some start) → (mark_of new v ≡ None) ⊎ (mark_of new v ≡ Some start)
@@ -89,7 +89,7 @@ module _ (g : Net) (start : ℕ) (old mid new : List (Option ℕ)) (frontier nex
 
 -- ---- the whole component
 
-module _ (g : Net) (start : ℕ) (old new : List (Option ℕ)) (lt : start < length old) (free : mark_of old start ≡ None) (uniform : AreUniform g old)
+module _ (g : Digraph) (start : ℕ) (old new : List (Option ℕ)) (lt : start < length old) (free : mark_of old start ≡ None) (uniform : AreUniform g old)
     (done : IsSpreading g start (set old start (Some start)) new []) where
   -- a mark that was there is there, and any other is the start's
   pub had : (v d : ℕ) → mark_of old v ≡ Some d → mark_of new v ≡ Some d
@@ -148,7 +148,7 @@ module _ (g : Net) (start : ℕ) (old new : List (Option ℕ)) (lt : start < len
     uniform = uniform_at;
   }
 
-pub nothing_labelled : (g : Net) (start : ℕ) (marks : List (Option ℕ)) → mark_of marks start ≢ None → AreUniform g marks → IsLabelling g start marks marks
+pub nothing_labelled : (g : Digraph) (start : ℕ) (marks : List (Option ℕ)) → mark_of marks start ≢ None → AreUniform g marks → IsLabelling g start marks marks
 nothing_labelled g start marks ne uniform = record {
   long = refl;
   kept = λ v d h. h;

@@ -7,12 +7,12 @@ use Rattle.std.proofs.lemmas.List.Sums.{sum_by-le}
 use Rattle.std.proofs.lemmas.List.Elements.{Contains-push, Contains-push_cases}
 use Rattle.std.proofs.lemmas.Option.{none-some, same_Some}
 use Rattle.std.proofs.Math.Nat.{mul-one}
-use Rattle.graph_net.specs.Net.{Net, Goes, IsClosed}
-use Rattle.graph_net.specs.Walks.{IsWalk, IsHopDistance}
+use Rattle.algo_digraph.specs.Digraph.{Digraph, Goes, IsClosed}
+use Rattle.algo_digraph.specs.Walks.{IsWalk, IsHopDistance}
 use Rattle.algo_reach.specs.Marks.{mark_of, unmarked, HasSource, IsMarking, IsPulled}
 use Rattle.algo_reach.proofs.Marking.{marked_within, marked_or_not}
 
-module _ (g : Net) where
+module _ (g : Digraph) where
   -- a walk with one more edge at its end
   pub walk_push : (a u b e : ℕ) (es : List ℕ) → IsWalk g a es u → Goes g e u b → IsWalk g a (es ++ e ∷ []) b
   walk_push a u b e [] w h = (b, subst (λ x. Goes g e x b) (sym w) h, refl)
@@ -29,14 +29,14 @@ module _ (g : Net) where
       (r.0, r.1, e ∷ r.2, (w.0, w.1, r.3), omega (arith, r.4), r.5)
 
 -- what is known of a vertex at a level
-abbrev pub KnownWithin : Net → ℕ → ℕ → ℕ → Option ℕ → Type 0
+abbrev pub KnownWithin : Digraph → ℕ → ℕ → ℕ → Option ℕ → Type 0
 KnownWithin g a k v None = (es : List ℕ) → IsWalk g a es v → k < length es
 KnownWithin g a k v (Some d) = (d ≤ k) × IsHopDistance g a v (Some d)
 
-abbrev pub AllKnown : Net → ℕ → ℕ → List (Option ℕ) → Type 0
+abbrev pub AllKnown : Digraph → ℕ → ℕ → List (Option ℕ) → Type 0
 AllKnown g a k seen = (v : ℕ) → v < g.vertices → KnownWithin g a k v (mark_of seen v)
 
-module _ (g : Net) (closed : IsClosed g) (a k : ℕ) (seen : List (Option ℕ)) (known : AllKnown g a k seen) where
+module _ (g : Digraph) (closed : IsClosed g) (a k : ℕ) (seen : List (Option ℕ)) (known : AllKnown g a k seen) where
   -- a walk to a known vertex, and one edge more
   longer : (d u v e : ℕ) → IsHopDistance g a u (Some d) → Goes g e u v → (es : List ℕ) × IsWalk g a es v × (length es ≡ d + 1)
   longer d u v e h goes =
@@ -154,7 +154,7 @@ none_in n v =
 pub opening_len : (n a : ℕ) → length (set (replicate {A = Option ℕ} n None) a (Some 0)) ≡ n
 opening_len n a = length-set (replicate {A = Option ℕ} n None) a (Some 0) ∙ length-replicate {A = Option ℕ} n None
 
-module _ (g : Net) (a : ℕ) (lt : a < g.vertices) where
+module _ (g : Digraph) (a : ℕ) (lt : a < g.vertices) where
   zero_first : IsHopDistance g a a (Some 0)
   zero_first = (([], refl, refl), λ es w. omega arith)
 

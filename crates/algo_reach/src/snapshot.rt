@@ -2,13 +2,13 @@
 ghost use Rattle.std.specs.Prelude.{◌≡◌, ℕ, ◌<◌, ◌≤◌, IfOk, None, length, slice_index, slice_index_or};
 ghost use Rattle.graph_model.specs.Graph.{vertex_total};
 ghost use Rattle.graph_snap.specs.Reading.{HasVertex};
-ghost use Rattle.graph_net.specs.Walks.{IsHopDistance, IsLabel};
-ghost use Rattle.graph_net.specs.NetOf.{net_of, table_sizes, index_of};
+ghost use Rattle.algo_digraph.specs.Walks.{IsHopDistance, IsLabel};
+ghost use Rattle.algo_digraph.specs.DigraphOf.{digraph_of, table_sizes, index_of};
 
-use crate::labels::net_components;
-use crate::levels::net_hops;
+use crate::labels::digraph_components;
+use crate::levels::digraph_hops;
+use algo_digraph::{FlatDigraph, VertexOrder};
 use column_types::{List, NoMemory};
-use graph_net::{FlatNet, VertexOrder};
 use graph_snap::{Snapshot, VertexAt};
 use std::alloc::Global;
 use std::thread::Threads;
@@ -17,8 +17,8 @@ use std::thread::Threads;
 /// `None` where there is no walk. Edges of all tables count alike.
 ///
 /// The list has an entry for each vertex of the graph, by index: table by table, and in a table by places (`VertexOrder` of
-/// `graph_net` turns positions into indexes and back). It does not depend on `workers`, the number of threads, from 1 to 64. The
-/// work and the memory are in proportion to vertices and edges. Want of memory is the only error.
+/// `algo_digraph` turns positions into indexes and back). It does not depend on `workers`, the number of threads, from 1 to 64. The
+/// snapshot's own rows are read, and the memory is in proportion to the vertices. Want of memory is the only error.
 pub fn hops<R: Threads + Sync>(
     rt: &R,
     alloc: Global,
@@ -30,11 +30,11 @@ pub fn hops<R: Threads + Sync>(
     requires workers { (1 ≤ workers) × (workers ≤ 64) }
     ensures len { IfOk result (λ found. length found ≡ vertex_total on.now) }
     ensures each { IfOk result (λ found. (v : ℕ) → v < vertex_total on.now
-        → IsHopDistance (net_of on.now) (index_of (table_sizes on.now) from) v (slice_index_or found v None)) }
+        → IsHopDistance (digraph_of on.now) (index_of (table_sizes on.now) from) v (slice_index_or found v None)) }
 {
     let order = VertexOrder::new(alloc, on)?;
-    let net = FlatNet::build(alloc, on, &order)?;
-    let found = net_hops(rt, alloc, &net, order.index(from), workers)?;
+    let digraph = FlatDigraph::new(alloc, on, &order)?;
+    let found = digraph_hops(rt, alloc, &digraph, order.index(from), workers)?;
     Ok(found)
 }
 
@@ -42,8 +42,8 @@ pub fn hops<R: Threads + Sync>(
 /// either way, so two vertices have the same label exactly where they lie in one weakly connected component.
 ///
 /// The list has an entry for each vertex of the graph, by index: table by table, and in a table by places. It does not depend
-/// on `workers`, the number of threads, from 1 to 64. The work and the memory are in proportion to vertices and edges. Want of
-/// memory is the only error.
+/// on `workers`, the number of threads, from 1 to 64. The snapshot's own rows are read, and the memory is in proportion to the
+/// vertices. Want of memory is the only error.
 pub fn components<R: Threads + Sync>(
     rt: &R,
     alloc: Global,
@@ -52,10 +52,10 @@ pub fn components<R: Threads + Sync>(
 ) -> Result<List<u64>, NoMemory>
     requires workers { (1 ≤ workers) × (workers ≤ 64) }
     ensures len { IfOk result (λ labels. length labels ≡ vertex_total on.now) }
-    ensures each { IfOk result (λ labels. (v : ℕ) → v < vertex_total on.now → IsLabel (net_of on.now) v (slice_index labels v)) }
+    ensures each { IfOk result (λ labels. (v : ℕ) → v < vertex_total on.now → IsLabel (digraph_of on.now) v (slice_index labels v)) }
 {
     let order = VertexOrder::new(alloc, on)?;
-    let net = FlatNet::build(alloc, on, &order)?;
-    let labels = net_components(rt, alloc, &net, workers)?;
+    let digraph = FlatDigraph::new(alloc, on, &order)?;
+    let labels = digraph_components(rt, alloc, &digraph, workers)?;
     Ok(labels)
 }

@@ -9,8 +9,8 @@ use Rattle.algo_core.proofs.cores.number_all.Goals as goal
 pub loop-v-init : goal.loop-v-init
 loop-v-init c = numbering_first c.args.level c.args.queue.now c.args.cores.now
 
-pub number_vertex-requires : goal.number_vertex-requires
-number_vertex-requires c = omega (arith, c.requires _ (Contains-get_or c.args.queue.now c.loop-v.v-index 0 c.loop-v-test.true), c.loop-v.invariant.long)
+pub number_vertex-requires-clause-vertex : goal.number_vertex-requires-clause-vertex
+number_vertex-requires-clause-vertex c = omega (arith, c.requires.within _ (Contains-get_or c.args.queue.now c.loop-v.v-index 0 c.loop-v-test.true), c.loop-v.invariant.long)
 
 pub loop-v-preserved : goal.loop-v-preserved
 loop-v-preserved c = numbering_more c.args.level c.args.queue.now c.loop-v.v-index _ _ _ c.loop-v-test.true c.loop-v.invariant c.number_vertex.ensures

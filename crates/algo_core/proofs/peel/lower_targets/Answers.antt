@@ -1,15 +1,27 @@
-use Rattle.std.proofs.Common.{◌∷◌, [], subst}
-use Rattle.graph_net.specs.Net.{target_of}
-use Rattle.graph_net.proofs.Rows.{leaves}
+use Rattle.std.proofs.Common.{◌<◌, ◌∷◌, [], ◌∙◌, subst, map, arith}
+use Rattle.std.proofs.lemmas.List.{map-append}
+use Rattle.algo_digraph.specs.declared.arcs.Arc.{Arc}
+use Rattle.algo_digraph.proofs.Turns.{arc_turn, arcs_end}
 use Rattle.algo_core.specs.Peeling.{IsLowering}
-use Rattle.algo_core.proofs.Peels.{row_more, lowering_then}
+use Rattle.algo_core.proofs.Peels.{lowering_then}
 use Rattle.algo_core.proofs.peel.lower_targets.Goals as goal
 
-pub target-requires : goal.target-requires
-target-requires c = (leaves c.args.net.now c.args.v c.out_row-edge-items.result.now c.loop-edge.edge-index c.loop-edge-test.true c.out_row-edge-items.ensures).0
+pub lower_end-requires-clause-core : goal.lower_end-requires-clause-core
+lower_end-requires-clause-core c =
+    let within = arc_turn (λ (a : Arc). a.vertex < c.args.digraph.now.vertices) _ _ _ _ _ _ c.into_iter-arc-iterator.ensures.into_iter_gives c.loop-arc.yielded_by c.in-Some.ensures.steps c.out_arcs-arc-items.ensures.ends in
+    omega (arith, within, c.requires.cores)
 
-pub loop-edge-preserved : goal.loop-edge-preserved
-loop-edge-preserved c =
-    let one = subst (λ w. IsLowering c.args.cores.now c.args.level (w ∷ []) c.loop-edge.ends c.lower_end.new.ends c.loop-edge.queue.items c.lower_end.new.queue.items) c.target.ensures.value c.in_ok-lower_end.ensures in
-    rw (row_more (target_of c.args.net.now) c.out_row-edge-items.result.now c.loop-edge.edge-index c.loop-edge-test.true)
-    (lowering_then c.args.cores.now c.args.level _ _ _ _ _ _ _ _ c.loop-edge.invariant one)
+pub lower_end-requires-clause-count : goal.lower_end-requires-clause-count
+lower_end-requires-clause-count c =
+    let within = arc_turn (λ (a : Arc). a.vertex < c.args.digraph.now.vertices) _ _ _ _ _ _ c.into_iter-arc-iterator.ensures.into_iter_gives c.loop-arc.yielded_by c.in-Some.ensures.steps c.out_arcs-arc-items.ensures.ends in
+    omega (arith, within, c.requires.ends, c.loop-arc.invariant.long)
+
+pub loop-arc-preserved : goal.loop-arc-preserved
+loop-arc-preserved c =
+    rw (map-append (λ (a : Arc). a.vertex) c.loop-arc.yielded (c.in-Some.arc ∷ []))
+    (lowering_then c.args.cores.now c.args.level _ _ _ _ _ _ _ _ c.loop-arc.invariant c.in_ok-lower_end.ensures)
+
+pub returns : goal.returns
+returns c =
+    let all = arcs_end _ _ _ _ c.into_iter-arc-iterator.ensures.into_iter_gives c.loop-arc.yielded_by c.in-None.ensures.steps.0 ∙ c.out_arcs-arc-items.ensures.arcs in
+    subst (λ xs. IsLowering c.args.cores.now c.args.level (map (λ (a : Arc). a.vertex) xs) c.args.ends.now c.loop-arc.ends c.args.queue.now.items c.loop-arc.queue.items) all c.loop-arc.invariant

@@ -5,8 +5,8 @@ use Rattle.algo_core.proofs.peel.peel_queue.Given as goal
 
 abbrev pub invariant-queue : goal.invariant-queue
 invariant-queue l = record {
-  peeling : IsPeeling l.net l.level l.cores l.ends;
-  queued : (v : ℕ) → Contains l.queue.items v → (v < l.net.vertices) × (slice_index l.ends v ≤ l.level);
+  peeling : IsPeeling l.digraph l.level l.cores l.ends;
+  queued : (v : ℕ) → Contains l.queue.items v → (v < l.digraph.vertices) × (slice_index l.ends v ≤ l.level);
   kept : (v k : ℕ) → core_of l.initial.cores v ≡ Some k → core_of l.cores v ≡ Some k;
   done : (v : ℕ) → Contains l.initial.queue.items v → Contains l.queue.items v ⊎ (core_of l.cores v ≢ None);
 }

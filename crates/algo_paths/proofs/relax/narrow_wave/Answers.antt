@@ -7,7 +7,7 @@ use Rattle.algo_paths.proofs.Relaxing.{progress_none, progress_one, progress_the
 use Rattle.algo_paths.proofs.relax.narrow_wave.Goals as goal
 
 pub loop-v-init : goal.loop-v-init
-loop-v-init c = progress_none c.args.net.now c.args.weights.now c.args.wave.now c.args.best.now (heap_items c.args.queue.now)
+loop-v-init c = progress_none c.args.digraph.now c.args.weights.now c.args.wave.now c.args.best.now (heap_items c.args.queue.now)
 
 pub relax_vertex-requires-clause-long : goal.relax_vertex-requires-clause-long
 relax_vertex-requires-clause-long c = c.loop-v.invariant.long ∙ c.requires.long
@@ -20,7 +20,7 @@ relax_vertex-requires-clause-vertex c = c.requires.wave _ (Contains-get_or c.arg
 
 pub loop-v-preserved : goal.loop-v-preserved
 loop-v-preserved c =
-    let g = c.args.net.now in
+    let g = c.args.digraph.now in
     let weights = c.args.weights.now in
     let wave = c.args.wave.now in
     let i = c.loop-v.v-index in
@@ -32,5 +32,5 @@ loop-v-preserved c =
 
 pub returns : goal.returns
 returns c =
-    subst (λ left. IsProgress c.args.net.now c.args.weights.now c.args.wave.now left c.args.best.now c.loop-v.best (heap_items c.args.queue.now) (heap_items c.loop-v.queue))
+    subst (λ left. IsProgress c.args.digraph.now c.args.weights.now c.args.wave.now left c.args.best.now c.loop-v.best (heap_items c.args.queue.now) (heap_items c.loop-v.queue))
     (drop_all c.loop-v.v-index c.args.wave.now c.loop-v-test.false) c.loop-v.invariant

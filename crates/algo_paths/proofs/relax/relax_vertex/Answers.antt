@@ -1,40 +1,47 @@
-use Rattle.std.proofs.Common.{◌≡◌, ◌+◌, ◌∙◌, ap, sym, subst, arith, slice_index, below_more, ◌≤◌}
+use Rattle.std.proofs.Common.{◌+◌, ◌≤◌, ◌<◌, ◌∙◌, ap, arith, slice_index, length}
 use Rattle.std.specs.BinaryHeap.{heap_items}
-use Rattle.graph_net.specs.Net.{Goes, target_of}
-use Rattle.graph_net.proofs.Rows.{leaves, left_at, target_is}
+use Rattle.std.proofs.lemmas.List.Elements.{All-push, All-weaker}
+use Rattle.algo_digraph.specs.declared.arcs.Arc.{Arc}
+use Rattle.algo_digraph.specs.Digraph.{Goes}
+use Rattle.algo_digraph.specs.Arcs.{arc, out_arcs}
+use Rattle.algo_digraph.proofs.ArcEdges.{left_arc}
+use Rattle.algo_digraph.proofs.Turns.{arc_turn, arcs_end, met}
 use Rattle.algo_paths.proofs.Relaxing.{relaxing_more}
 use Rattle.algo_paths.proofs.relax.relax_vertex.Goals as goal
 
-pub target-requires : goal.target-requires
-target-requires c = (leaves c.args.net.now c.args.v c.out_row-edge-items.result.now c.loop-edge.edge-index c.loop-edge-test.true c.out_row-edge-items.ensures).0
+pub bounds-weights-arc : goal.bounds-weights-arc
+bounds-weights-arc c =
+    let within = arc_turn (λ (a : Arc). a.edge < length c.args.digraph.now.edges) _ _ _ _ _ _ c.into_iter-arc-iterator.ensures.into_iter_gives c.loop-arc.yielded_by c.in-Some.ensures.steps c.out_arcs-arc-items.ensures.edges in
+    omega (arith, within, c.requires.weights)
 
-pub bounds-weights-edge : goal.bounds-weights-edge
-bounds-weights-edge c =
-    omega (arith, (leaves c.args.net.now c.args.v c.out_row-edge-items.result.now c.loop-edge.edge-index c.loop-edge-test.true c.out_row-edge-items.ensures).0, c.requires.weights)
+pub offer-requires-clause-within : goal.offer-requires-clause-within
+offer-requires-clause-within c =
+    let within = arc_turn (λ (a : Arc). a.vertex < c.args.digraph.now.vertices) _ _ _ _ _ _ c.into_iter-arc-iterator.ensures.into_iter_gives c.loop-arc.yielded_by c.in-Some.ensures.steps c.out_arcs-arc-items.ensures.ends in
+    omega (arith, within, c.requires.long, c.loop-arc.invariant.relaxing.long)
 
-pub loop-edge-preserved : goal.loop-edge-preserved
-loop-edge-preserved c =
-    let g = c.args.net.now in
+pub loop-arc-preserved : goal.loop-arc-preserved
+loop-arc-preserved c =
+    let g = c.args.digraph.now in
     let v = c.args.v in
     let weights = c.args.weights.now in
     let old = c.args.best.now in
-    let e = slice_index c.out_row-edge-items.result.now c.loop-edge.edge-index in
-    let w = c.target.result in
-    let to = c.target.ensures.value in
-    let goes = subst (Goes g e v) (sym to) (leaves g v c.out_row-edge-items.result.now c.loop-edge.edge-index c.loop-edge-test.true c.out_row-edge-items.ensures).1 in
+    let a = c.in-Some.arc in
+    let inv = c.loop-arc.invariant in
+    let goes = arc_turn (λ (b : Arc). Goes g b.edge v b.vertex) _ _ _ _ _ _ c.into_iter-arc-iterator.ensures.into_iter_gives c.loop-arc.yielded_by c.in-Some.ensures.steps c.out_arcs-arc-items.ensures.each in
     let one = c.in_ok-offer.ensures in
-    let own = ap (λ xs. slice_index xs v + slice_index weights e) c.as_slice.ensures in
+    let own = ap (λ xs. slice_index xs v + slice_index weights a.edge) c.as_slice.ensures in
     record {
-      relaxing = relaxing_more g weights v e w _ old c.loop-edge.best c.offer.new.best (heap_items c.args.queue.now) (heap_items c.loop-edge.queue) (heap_items c.offer.new.queue) c.loop-edge.invariant.relaxing one goes c.sound.ensures own;
-      sofar = below_more _ _ (λ k lt. omega (arith, one.lower (target_of g (slice_index c.out_row-edge-items.result.now k)), c.loop-edge.invariant.sofar k lt))
-          (subst (λ x. slice_index c.offer.new.best x ≤ slice_index c.as_slice.result.now v + slice_index weights e) to one.taken);
+      relaxing = relaxing_more g weights v a.edge a.vertex _ old c.loop-arc.best c.offer.new.best (heap_items c.args.queue.now) (heap_items c.loop-arc.queue) (heap_items c.offer.new.queue) inv.relaxing one goes c.sound.ensures own;
+      sofar = All-push (λ (b : Arc). slice_index c.offer.new.best b.vertex ≤ slice_index c.as_slice.result.now v + slice_index weights b.edge) c.loop-arc.yielded a
+          (All-weaker (λ (b : Arc). slice_index c.loop-arc.best b.vertex ≤ slice_index c.as_slice.result.now v + slice_index weights b.edge) (λ (b : Arc). slice_index c.offer.new.best b.vertex ≤ slice_index c.as_slice.result.now v + slice_index weights b.edge)
+          (λ b h. omega (arith, h, one.lower b.vertex)) c.loop-arc.yielded inv.sofar)
+          one.taken;
     }
 
 pub returns-clause-relaxed : goal.returns-clause-relaxed
 returns-clause-relaxed c = λ e w h.
-    let g = c.args.net.now in
-    let row = c.out_row-edge-items.result.now in
-    let at = left_at g c.args.v row c.out_row-edge-items.ensures e w h in
-    let so = rw c.as_slice.ensures at (c.loop-edge.invariant.sofar at.0 (omega (arith, at.1, c.loop-edge-test.false))) in
-    let there : target_of g (slice_index row at.0) ≡ w = ap (target_of g) at.2 ∙ target_is g e c.args.v w h in
-    omega (arith, so, ap (slice_index c.loop-edge.best) there, ap (slice_index c.args.weights.now) at.2)
+    let g = c.args.digraph.now in
+    let v = c.args.v in
+    let all = arcs_end _ _ _ _ c.into_iter-arc-iterator.ensures.into_iter_gives c.loop-arc.yielded_by c.in-None.ensures.steps.0 ∙ c.out_arcs-arc-items.ensures.arcs in
+    let so = rw c.as_slice.ensures at c.loop-arc.invariant.sofar in
+    met (λ (b : Arc). slice_index c.loop-arc.best b.vertex ≤ slice_index c.args.best.now v + slice_index c.args.weights.now b.edge) (out_arcs g v) c.loop-arc.yielded (arc e w) all so (left_arc g v e w h)

@@ -2,9 +2,13 @@ use Rattle.std.proofs.Common.{◌∙◌, ap, sym, w64, FitsSigned}
 use Rattle.std.proofs.lemmas.Int.{to_z-of_z}
 use Rattle.graph_schema.specs.Schema.{SchemaData}
 use Rattle.graph_model.specs.Graph.{has_vertex}
-use Rattle.algo_paths.specs.Weights.{has_weight}
-use Rattle.algo_paths.proofs.Answering.{found_there, least_on}
+use Rattle.algo_paths.specs.Weights.{has_weight, edge_weight}
+use Rattle.algo_paths.proofs.Answering.{found_there, weights_long, least_on}
 use Rattle.algo_paths.proofs.snapshot.least_weights.Goals as goal
+
+pub digraph_least_weights-requires-clause-weights : goal.digraph_least_weights-requires-clause-weights
+digraph_least_weights-requires-clause-weights g c κs within =
+    weights_long c.args.on.now (edge_weight c.args.weight.now c.args.on.now) c.as_slice.result.now c.in_ok-weights.weights c.in_ok-digraph.digraph c.in_ok-weights.ensures.are c.as_slice.ensures c.in_ok-digraph.ensures
 
 pub returns-clause-least : goal.returns-clause-least
 returns-clause-least g c =
@@ -19,6 +23,6 @@ returns-clause-least g c =
       start = rw (to_z-of_z w64 _ fits) at c.in-Some.ensures.found;
       weights = c.in_ok-weights.weights;
       are = c.in_ok-weights.ensures.are;
-      least = least_on on c.in-Some.at c.in_ok-found.found c.in_ok-net.net c.as_slice.result.now c.in_ok-weights.weights c.in_ok-order.order c.index-start.result
-          c.in_ok-net.ensures c.as_slice.ensures c.index-start.ensures.value c.in_ok-order.ensures c.in_ok-found.ensures.each;
+      least = least_on on c.in-Some.at c.in_ok-found.found c.in_ok-digraph.digraph c.as_slice.result.now c.in_ok-weights.weights c.in_ok-order.order c.index-start.result
+          c.in_ok-digraph.ensures c.as_slice.ensures c.index-start.ensures.value c.in_ok-order.ensures c.in_ok-found.ensures.each;
     }

@@ -9,7 +9,7 @@ pub levels-init : goal.levels-init
 levels-init g c =
     let start = c.args.start in
     let one : c.push.new.self ≡ start ∷ [] = c.in_ok-push.ensures.ok ∙ ap (λ l. l ++ start ∷ []) c.new-frontier.ensures in
-    rw one (first_spreading c.args.net.now start c.args.labels.now c.requires.start c.requires.alone)
+    rw one (first_spreading c.args.digraph.now start c.args.labels.now c.requires.start c.requires.alone)
 
 pub levels-preserved : goal.levels-preserved
 levels-preserved g c =
@@ -23,4 +23,4 @@ levels-smaller g c =
 pub returns : goal.returns
 returns g c =
     let empty : c.levels.frontier ≡ [] = c.is_empty.ensures.0 c.levels-test.false in
-    subst (IsSpreading c.args.net.now c.args.start c.args.labels.now c.levels.labels) empty c.levels.invariant
+    subst (IsSpreading c.args.digraph.now c.args.start c.args.labels.now c.levels.labels) empty c.levels.invariant

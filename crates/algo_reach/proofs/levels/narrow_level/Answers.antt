@@ -2,7 +2,7 @@ use Rattle.std.proofs.Common.{◌≡◌, ℕ, ◌∙◌, inl, inr, sym, subst, a
 use Rattle.std.proofs.lemmas.Bool.{cases_lt}
 use Rattle.std.proofs.lemmas.List.{get_or_default}
 use Rattle.std.proofs.lemmas.List.Elements.{Contains-get_or}
-use Rattle.graph_net.specs.Net.{Goes}
+use Rattle.algo_digraph.specs.Digraph.{Goes}
 use Rattle.algo_reach.specs.Marks.{HasSource}
 use Rattle.algo_reach.proofs.Marking.{marking_none, marking_then, still_marked}
 use Rattle.algo_reach.proofs.levels.narrow_level.Goals as goal
@@ -12,7 +12,7 @@ loop-v-init c = rw c.new-next.ensures (record { marking = marking_none _ _ _ _; 
 
 pub loop-v-preserved : goal.loop-v-preserved
 loop-v-preserved c =
-    let g = c.args.net.now in
+    let g = c.args.digraph.now in
     let front = c.args.frontier.now in
     let i = c.loop-v.v-index in
     let v = slice_index front i in
@@ -31,4 +31,4 @@ pub returns-clause-all : goal.returns-clause-all
 returns-clause-all c = λ e u w found goes.
     let front = c.args.frontier.now in
     let at : slice_index front found.0 ≡ u = get_or_default front found.0 0 u found.1 ∙ found.2 in
-    c.loop-v.invariant.sofar found.0 e w (omega (arith, found.1, c.loop-v-test.false)) (subst (λ x. Goes c.args.net.now e x w) (sym at) goes)
+    c.loop-v.invariant.sofar found.0 e w (omega (arith, found.1, c.loop-v-test.false)) (subst (λ x. Goes c.args.digraph.now e x w) (sym at) goes)

@@ -1,28 +1,36 @@
-use Rattle.std.proofs.Common.{◌∙◌, ap, sym, refl, arith, slice_index}
+use Rattle.std.proofs.Common.{◌≢◌, ◌<◌, ◌∙◌, Some, sym, refl, arith}
 use Rattle.std.proofs.lemmas.Bool.{false≢true}
-use Rattle.graph_net.specs.Net.{source_of}
-use Rattle.graph_net.proofs.Rows.{enters, entered_at, source_is}
+use Rattle.std.proofs.lemmas.List.Elements.{All-push}
+use Rattle.algo_digraph.specs.declared.arcs.Arc.{Arc}
+use Rattle.algo_digraph.specs.Digraph.{Goes}
+use Rattle.algo_digraph.specs.Arcs.{arc, in_arcs}
+use Rattle.algo_digraph.proofs.ArcEdges.{entered_arc}
+use Rattle.algo_digraph.proofs.Turns.{arc_turn, arcs_end, met}
 use Rattle.algo_reach.specs.Marks.{mark_of}
 use Rattle.algo_reach.proofs.marks.has_source.Goals as goal
 
-pub source-requires : goal.source-requires
-source-requires c = (enters c.args.net.now c.args.v c.in_row-edge-items.result.now c.loop-edge.edge-index c.loop-edge-test.true c.in_row-edge-items.ensures).0
+pub has-requires-clause-vertex : goal.has-requires-clause-vertex
+has-requires-clause-vertex c =
+    let within = arc_turn (λ (a : Arc). a.vertex < c.args.digraph.now.vertices) _ _ _ _ _ _ c.into_iter-arc-iterator.ensures.into_iter_gives c.loop-arc.yielded_by c.in-Some.ensures.steps c.in_arcs-arc-items.ensures.ends in
+    omega (arith, within, c.requires.long)
 
-pub returns-then-has_mark : goal.returns-then-has_mark
-returns-then-has_mark c =
-    let g = c.args.net.now in
-    let row = c.in_row-edge-items.result.now in
-    let e = slice_index row c.loop-edge.edge-index in
-    let goes = (enters g c.args.v row c.loop-edge.edge-index c.loop-edge-test.true c.in_row-edge-items.ensures).1 in
-    let has = c.has_mark.ensures.0 c.if-has_mark.true in
-    (λ t. (e, source_of g e, goes, ap (mark_of c.args.marks.now) (sym c.source.ensures.value) ∙ has), λ h. refl)
+pub loop-arc-preserved : goal.loop-arc-preserved
+loop-arc-preserved c =
+    All-push (λ (a : Arc). mark_of c.args.marks.now a.vertex ≢ Some c.args.mark) c.loop-arc.yielded c.in-Some.arc c.loop-arc.invariant (λ e. false≢true (sym c.if-has.false ∙ c.has.ensures.1 e))
+
+pub returns-then-has : goal.returns-then-has
+returns-then-has c =
+    let g = c.args.digraph.now in
+    let v = c.args.v in
+    let a = c.in-Some.arc in
+    let goes = arc_turn (λ (b : Arc). Goes g b.edge b.vertex v) _ _ _ _ _ _ c.into_iter-arc-iterator.ensures.into_iter_gives c.loop-arc.yielded_by c.in-Some.ensures.steps c.in_arcs-arc-items.ensures.each in
+    (λ t. (a.edge, a.vertex, goes, c.has.ensures.0 c.if-has.true), λ h. refl)
 
 pub returns : goal.returns
 returns c =
-    let g = c.args.net.now in
-    let v = c.args.v in (
+    let g = c.args.digraph.now in
+    let v = c.args.v in
+    let all = arcs_end _ _ _ _ c.into_iter-arc-iterator.ensures.into_iter_gives c.loop-arc.yielded_by c.in-None.ensures.steps.0 ∙ c.in_arcs-arc-items.ensures.arcs in (
       λ t. absurd (false≢true t),
-      λ h.
-          let at = entered_at g v c.in_row-edge-items.result.now c.in_row-edge-items.ensures h.0 h.1 h.2 in
-          absurd (c.loop-edge.invariant at.0 (omega (arith, at.1, c.loop-edge-test.false)) (ap (mark_of c.args.marks.now) (ap (source_of g) at.2 ∙ source_is g h.0 h.1 v h.2) ∙ h.3)),
+      λ h. absurd (met (λ (b : Arc). mark_of c.args.marks.now b.vertex ≢ Some c.args.mark) (in_arcs g v) c.loop-arc.yielded (arc h.0 h.1) all c.loop-arc.invariant (entered_arc g v h.0 h.1 h.2) h.3),
     )

@@ -1,29 +1,35 @@
-use Rattle.std.proofs.Common.{ℕ, ◌∙◌, ap, sym, subst, arith, below_more, slice_index}
-use Rattle.graph_net.specs.Net.{Goes, target_of}
-use Rattle.graph_net.proofs.Rows.{leaves, left_at, target_is}
+use Rattle.std.proofs.Common.{◌≢◌, ℕ, ◌<◌, ◌∙◌, None, sym, subst, arith}
+use Rattle.std.proofs.lemmas.List.Elements.{All-push, All-weaker}
+use Rattle.algo_digraph.specs.declared.arcs.Arc.{Arc}
+use Rattle.algo_digraph.specs.Digraph.{Goes}
+use Rattle.algo_digraph.specs.Arcs.{arc, out_arcs}
+use Rattle.algo_digraph.proofs.ArcEdges.{left_arc}
+use Rattle.algo_digraph.proofs.Turns.{arc_turn, arcs_end, met}
 use Rattle.algo_reach.specs.Marks.{mark_of}
 use Rattle.algo_reach.proofs.Marking.{marking_then, still_marked}
 use Rattle.algo_reach.proofs.marks.mark_targets.Goals as goal
 
-pub target-requires : goal.target-requires
-target-requires c = (leaves c.args.net.now c.args.v c.out_row-edge-items.result.now c.loop-edge.edge-index c.loop-edge-test.true c.out_row-edge-items.ensures).0
+pub mark_vertex-requires-clause-vertex : goal.mark_vertex-requires-clause-vertex
+mark_vertex-requires-clause-vertex c =
+    let within = arc_turn (λ (a : Arc). a.vertex < c.args.digraph.now.vertices) _ _ _ _ _ _ c.into_iter-arc-iterator.ensures.into_iter_gives c.loop-arc.yielded_by c.in-Some.ensures.steps c.out_arcs-arc-items.ensures.ends in
+    omega (arith, within, c.loop-arc.invariant.marking.long, c.requires.long)
 
-pub loop-edge-preserved : goal.loop-edge-preserved
-loop-edge-preserved c =
-    let g = c.args.net.now in
+pub loop-arc-preserved : goal.loop-arc-preserved
+loop-arc-preserved c =
+    let g = c.args.digraph.now in
     let v = c.args.v in
-    let e = slice_index c.out_row-edge-items.result.now c.loop-edge.edge-index in
-    let goes = (leaves g v c.out_row-edge-items.result.now c.loop-edge.edge-index c.loop-edge-test.true c.out_row-edge-items.ensures).1 in
+    let a = c.in-Some.arc in
+    let goes = arc_turn (λ (b : Arc). Goes g b.edge v b.vertex) _ _ _ _ _ _ c.into_iter-arc-iterator.ensures.into_iter_gives c.loop-arc.yielded_by c.in-Some.ensures.steps c.out_arcs-arc-items.ensures.each in
     let one = c.in_ok-mark_vertex.ensures.marking in
     record {
-      marking = marking_then _ _ (λ w. (e : ℕ) × Goes g e v w) _ _ _ _ _ _ _ c.loop-edge.invariant.marking one (λ x h. h)
-          (λ x h. (e, subst (Goes g e v) (sym (h ∙ c.target.ensures.value)) goes));
-      sofar = below_more _ _ (λ k lt. still_marked _ _ _ _ _ _ _ one (c.loop-edge.invariant.sofar k lt))
-          (λ none. c.in_ok-mark_vertex.ensures.marked (ap (mark_of c.mark_vertex.new.marks) c.target.ensures.value ∙ none));
+      marking = marking_then _ _ (λ w. (e : ℕ) × Goes g e v w) _ _ _ _ _ _ _ c.loop-arc.invariant.marking one (λ x h. h) (λ x h. (a.edge, subst (Goes g a.edge v) (sym h) goes));
+      sofar = All-push (λ (b : Arc). mark_of c.mark_vertex.new.marks b.vertex ≢ None) c.loop-arc.yielded a
+          (All-weaker (λ (b : Arc). mark_of c.loop-arc.marks b.vertex ≢ None) (λ (b : Arc). mark_of c.mark_vertex.new.marks b.vertex ≢ None) (λ b ne. still_marked _ _ _ _ _ _ b.vertex one ne) c.loop-arc.yielded c.loop-arc.invariant.sofar)
+          c.in_ok-mark_vertex.ensures.marked;
     }
 
 pub returns-clause-all : goal.returns-clause-all
-returns-clause-all c = λ e w h none.
-    let g = c.args.net.now in
-    let at = left_at g c.args.v c.out_row-edge-items.result.now c.out_row-edge-items.ensures e w h in
-    c.loop-edge.invariant.sofar at.0 (omega (arith, at.1, c.loop-edge-test.false)) (ap (mark_of c.loop-edge.marks) (ap (target_of g) at.2 ∙ target_is g e c.args.v w h) ∙ none)
+returns-clause-all c = λ e w h.
+    let g = c.args.digraph.now in
+    let all = arcs_end _ _ _ _ c.into_iter-arc-iterator.ensures.into_iter_gives c.loop-arc.yielded_by c.in-None.ensures.steps.0 ∙ c.out_arcs-arc-items.ensures.arcs in
+    met (λ (b : Arc). mark_of c.loop-arc.marks b.vertex ≢ None) (out_arcs g c.args.v) c.loop-arc.yielded (arc e w) all c.loop-arc.invariant.sofar (left_arc g c.args.v e w h)

@@ -1,4 +1,4 @@
 use Rattle.algo_reach.proofs.snapshot.components.Goals as goal
 
 pub returns-clause-each : goal.returns-clause-each
-returns-clause-each g c = rw c.in_ok-net.ensures at c.in_ok-labels.ensures.each
+returns-clause-each g c = rw c.in_ok-digraph.ensures at c.in_ok-labels.ensures.each

@@ -1,0 +1,13 @@
+pub mod Lists
+pub mod Orders
+pub mod Edges
+pub mod ArcEdges
+pub mod Places
+pub mod Ends
+pub mod Sides
+pub mod Flats
+pub mod Tables
+pub mod Turns
+pub mod Cells
+pub mod Paths
+pub mod Meaning

@@ -1,5 +1,0 @@
-use Rattle.graph_net.proofs.Meaning.{tables_rise, places_rise, one_position}
-use Rattle.graph_net.proofs.laws.indexes_rise_by_positions.Goals as goal
-
-pub returns : goal.returns
-returns c = record { tables = tables_rise; places = places_rise; one = one_position }

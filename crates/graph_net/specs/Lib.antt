@@ -1,6 +1,0 @@
-pub mod Net
-pub mod Walks
-pub mod Cores
-pub mod NetOf
-pub mod FlatRows
-pub mod Flat
