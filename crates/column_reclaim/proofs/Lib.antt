@@ -1,0 +1,4 @@
+pub mod Times
+pub mod Places
+pub mod Changes
+pub mod Finds

@@ -1,0 +1,11 @@
+use Rattle.std.proofs.Common.{rules}
+use Rattle.std.proofs.lemmas.List.Sorted.{answers_always}
+use Rattle.column_reclaim.proofs.Places.{searched}
+use Rattle.column_reclaim.proofs.row.place_of.Goals as goal
+
+-- the closure gives a row's id
+pub returns : goal.returns
+returns g c =
+    let facts = c.binary_search_by_key.ensures in
+    let by_id = facts.position (λ row. row.id) (answers_always _ _ _ (λ f a r g called. search rules)) in
+    rw c.ok.ensures.value (searched c.args.rows.now c.args.id _ c.requires facts.bound by_id)
