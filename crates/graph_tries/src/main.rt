@@ -16,15 +16,15 @@
 //! and a value that is none of its property's kind is taken as a text. Tables and properties that are not there have the place
 //! 4294967295.
 //!
-//! The questions stand in the modules: `graph_asked`, `snapshot_asked` and `net_asked`. In an answer `none` is an empty one,
+//! The questions stand in the modules: `graph_asked`, `snapshot_asked` and `digraph_asked`. In an answer `none` is an empty one,
 //! and `~` a line feed.
 #![tactic(auto)]
 
 ghost use Rattle.std.specs.Prelude.{◌≡◌, ◌<◌};
 
 mod changes;
+mod digraph_asked;
 mod graph_asked;
-mod net_asked;
 mod parts_asked;
 mod show;
 mod snapshot_asked;

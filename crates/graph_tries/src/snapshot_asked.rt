@@ -9,19 +9,21 @@
 //! | `names` | how many slots there are, and their names |
 //! | `back` | the text of the graph that the snapshot is turned back into |
 //! | `shared QUESTION`, `assembled QUESTION` | the answer of a snapshot that shares the parts, or that is assembled from them |
-ghost use Rattle.std.specs.Prelude.{◌≡◌, ◌<◌, ◌≤◌, map, length, IfOk};
+//! | `derived QUESTION` | the answer of a snapshot that is made from it and keeps all of its slots |
+ghost use Rattle.std.specs.Prelude.{◌≡◌, ◌<◌, ◌≤◌, All, map, length, IfOk};
 ghost use Rattle.graph_model.specs.Graph.{vertex_props_at, edge_props_at};
 ghost use Rattle.graph_slots.specs.Slots.{slots};
 ghost use Rattle.graph_slots.specs.Meaning.{slot_value};
 ghost use Rattle.graph_snap.specs.Reading.{HasVertex, HasEdge};
+ghost use Rattle.graph_snap.specs.Sharing.{IsKnown, graph_parts, parts_of};
 
+use crate::digraph_asked::ask_digraph;
 use crate::graph_asked::push_name;
-use crate::net_asked::ask_net;
 use crate::show::{cut, one_line, push_comma, push_places, push_position, push_value};
 use column_types::{List, NoMemory, Steps, Text};
 use graph_model::{Graph, Prop};
 use graph_slots::Part;
-use graph_snap::{EdgeAt, Snapshot, VertexAt};
+use graph_snap::{Built, Derived, EdgeAt, Snapshot, VertexAt};
 use graph_text::{graph_text, push_count, push_number};
 use std::alloc::Global;
 use std::sync::ledger::Ledger;
@@ -41,6 +43,9 @@ pub fn ask_snapshot<L: Ledger, R: Threads + Sync>(
     }
     if let Some(question) = question.strip_prefix("assembled ") {
         return ask_assembled(rt, alloc, &snapshot, question);
+    }
+    if let Some(question) = question.strip_prefix("derived ") {
+        return ask_derived(rt, alloc, &snapshot, question);
     }
     ask(rt, alloc, &snapshot, question)
 }
@@ -63,6 +68,35 @@ fn ask_assembled<R: Threads + Sync>(
 ) -> Result<Text, NoMemory> {
     let copy = assembled(alloc, on)?;
     ask(rt, alloc, &copy, question)
+}
+
+fn ask_derived<R: Threads + Sync>(
+    rt: &R,
+    alloc: Global,
+    on: &Snapshot,
+    question: &str,
+) -> Result<Text, NoMemory> {
+    let built = derived(alloc, on)?;
+    ask(rt, alloc, &built.shot, question)
+}
+
+/// The snapshot that keeps each slot of a snapshot.
+fn derived(alloc: Global, on: &Snapshot) -> Result<Built, NoMemory> {
+    on.sound();
+    let kept = all_kept(alloc, on)?;
+    Snapshot::derive(alloc, on, on.schema().clone()?, kept, 0)
+}
+
+/// Each slot of a snapshot, kept.
+fn all_kept(alloc: Global, on: &Snapshot) -> Result<List<Derived>, NoMemory>
+    ensures known { IfOk result (All (IsKnown on.now)) }
+    ensures parts { IfOk result (λ kept. parts_of on.now kept ≡ graph_parts on.now) }
+{
+    let mut kept = List::new(alloc);
+    for slot in 0..on.slot_count() {
+        kept.push(Derived::Kept(slot))?;
+    }
+    Ok(kept)
 }
 
 /// The snapshot of a snapshot's own parts.
@@ -99,7 +133,7 @@ fn ask<R: Threads + Sync>(
         "find" => found(alloc, on, rest),
         "names" => names(alloc, on),
         "back" => back(alloc, on),
-        _ => ask_net(rt, alloc, on, question),
+        _ => ask_digraph(rt, alloc, on, question),
     }
 }
 

@@ -1,8 +1,8 @@
-//! Questions about the net of a graph, and algorithms.
+//! Questions about the digraph of a graph, and algorithms.
 //!
 //! | question | answer |
 //! |---|---|
-//! | `net` | for each index its vertex's position, and the places of the edges that leave and enter it |
+//! | `digraph` | for each index its vertex's position, and for the edges that leave and enter it their numbers and the vertices at their other ends, as `EDGE>VERTEX` |
 //! | `index KEY` | the index of the vertex of a key, and its position by that index |
 //! | `hops KEY by WORKERS ..` | for each number of workers the hop distances from the vertex of a key, `-` where there is no walk |
 //! | `components by WORKERS ..` | the labels of the components |
@@ -14,13 +14,13 @@ ghost use Rattle.graph_snap.specs.Reading.{HasVertex};
 
 use crate::show::{
     counts_or_none_text, counts_text, cut, numbers_or_none_text, push_answer, push_comma,
-    push_places, push_position,
+    push_position,
 };
 use algo_core::core_numbers;
+use algo_digraph::{Arcs, FlatDigraph, VertexOrder};
 use algo_paths::{PathFault, least_weights};
 use algo_reach::{components, hops};
 use column_types::{NoMemory, Text};
-use graph_net::{FlatNet, VertexOrder};
 use graph_snap::{Snapshot, VertexAt};
 use graph_text::push_count;
 use par_rounds::round;
@@ -28,7 +28,7 @@ use std::alloc::Global;
 use std::thread::Threads;
 
 /// The answer to a question.
-pub fn ask_net<R: Threads + Sync>(
+pub fn ask_digraph<R: Threads + Sync>(
     rt: &R,
     alloc: Global,
     on: &Snapshot,
@@ -36,7 +36,7 @@ pub fn ask_net<R: Threads + Sync>(
 ) -> Result<Text, NoMemory> {
     let (word, rest) = cut(question, ' ');
     match word {
-        "net" => net(alloc, on),
+        "digraph" => digraph(alloc, on),
         "index" => index(alloc, on, rest),
         _ => match question.split_once(" by ") {
             Some((question, workers)) => by_workers(rt, alloc, on, question, workers),
@@ -45,26 +45,40 @@ pub fn ask_net<R: Threads + Sync>(
     }
 }
 
-// ---- the net
+// ---- the digraph
 
-fn net(alloc: Global, on: &Snapshot) -> Result<Text, NoMemory> {
+fn digraph(alloc: Global, on: &Snapshot) -> Result<Text, NoMemory> {
     let order = VertexOrder::new(alloc, on)?;
-    let net = FlatNet::build(alloc, on, &order)?;
-    net_text(alloc, &net, &order)
+    let digraph = FlatDigraph::new(alloc, on, &order)?;
+    digraph_text(alloc, &digraph, &order)
 }
 
-fn net_text(alloc: Global, net: &FlatNet, order: &VertexOrder) -> Result<Text, NoMemory> {
+fn digraph_text(
+    alloc: Global,
+    digraph: &FlatDigraph<'_>,
+    order: &VertexOrder,
+) -> Result<Text, NoMemory> {
     let mut out = Text::new(alloc);
-    push_count(&mut out, u64::from(net.vertex_count()))?;
+    push_count(&mut out, u64::from(digraph.vertex_count()))?;
     for v in 0..order.vertex_count() {
         push_comma(&mut out)?;
         push_at(&mut out, order.position(v))?;
         out.push(" out")?;
-        push_places(&mut out, net.out_row(v))?;
+        push_arcs(&mut out, digraph.out_arcs(v))?;
         out.push(" in")?;
-        push_places(&mut out, net.in_row(v))?;
+        push_arcs(&mut out, digraph.in_arcs(v))?;
     }
     Ok(out)
+}
+
+fn push_arcs(out: &mut Text, arcs: Arcs<'_, '_>) -> Result<(), NoMemory> {
+    for arc in arcs {
+        out.push(" ")?;
+        push_count(out, u64::from(arc.edge))?;
+        out.push(">")?;
+        push_count(out, u64::from(arc.vertex))?;
+    }
+    Ok(())
 }
 
 fn push_at(out: &mut Text, at: VertexAt) -> Result<(), NoMemory> {
