@@ -1,0 +1,12 @@
+pub mod Places
+pub mod FirstPlaces
+pub mod LongColumns
+pub mod Standing
+pub mod EndPlaces
+pub mod PropParts
+pub mod Tables
+pub mod GraphTables
+pub mod SlotParts
+pub mod AllSteps
+pub mod ColumnTables
+pub mod Pushed

@@ -1,0 +1,3 @@
+pub mod Keys
+pub mod SlotSteps
+pub mod TableParts

@@ -1,0 +1,6 @@
+pub mod Fault
+pub mod Field
+pub mod Walk
+pub mod Check
+pub mod Config
+pub mod Place

@@ -1,0 +1,16 @@
+pub mod Rows
+pub mod Positions
+pub mod Told
+pub mod Memory
+pub mod SeatRows
+pub mod Zips
+pub mod Totals
+pub mod Distinct
+pub mod EndsOfEdges
+pub mod VertexChanges
+pub mod EdgeChanges
+pub mod Graphs
+pub mod StoredRows
+pub mod StoredVertices
+pub mod StoredEdges
+pub mod SeatEnds

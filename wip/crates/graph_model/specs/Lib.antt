@@ -1,0 +1,13 @@
+pub use Rattle.graph_schema.specs.Name
+pub use Rattle.graph_schema.specs.Location
+pub use Rattle.graph_schema.specs.Fault
+pub use Rattle.graph_schema.specs.Schema
+pub use Rattle.graph_schema.specs.Law
+pub use Rattle.graph_schema.specs.Answer
+pub mod Keys
+pub mod Seats
+pub mod Graph
+pub mod Change
+pub mod Stored
+pub mod Columns
+pub mod KeysAndEnds

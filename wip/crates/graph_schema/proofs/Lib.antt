@@ -1,0 +1,4 @@
+pub mod Each
+pub mod Nothing
+pub mod Faultless
+pub mod Sound

@@ -1,0 +1,10 @@
+pub mod GraphOf
+pub mod Columns
+pub mod Snapshots
+pub mod Found
+pub mod Known
+pub mod SharedParts
+pub mod KeyIndexes
+pub mod Readers
+pub mod Taken
+pub mod EdgesOf

@@ -1,0 +1,5 @@
+pub mod Cells
+pub mod Seen
+pub mod Reading
+pub mod Sharing
+pub mod Indexes
