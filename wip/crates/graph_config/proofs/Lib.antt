@@ -1,9 +1,0 @@
-pub mod Faults
-pub mod Each
-pub mod EndsFrom
-pub mod Items
-pub mod Kept
-pub mod Read
-pub mod Made
-pub mod Told
-pub mod Later

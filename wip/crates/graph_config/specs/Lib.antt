@@ -1,6 +1,0 @@
-pub mod Fault
-pub mod Field
-pub mod Walk
-pub mod Check
-pub mod Config
-pub mod Place

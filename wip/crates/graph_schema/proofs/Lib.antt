@@ -1,4 +1,0 @@
-pub mod Each
-pub mod Nothing
-pub mod Faultless
-pub mod Sound

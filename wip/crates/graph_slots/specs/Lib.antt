@@ -1,5 +1,0 @@
-pub mod Slots
-pub mod Meaning
-pub mod Touched
-pub mod Numbers
-pub mod Layout

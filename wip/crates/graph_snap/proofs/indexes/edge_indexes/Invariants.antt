@@ -1,7 +1,0 @@
-use Rattle.std.proofs.Common.{◌≡◌, take}
-use Rattle.graph_columns.specs.Keys.{edge_keys}
-use Rattle.graph_snap.specs.Seen.{graph_of}
-use Rattle.graph_snap.proofs.indexes.edge_indexes.Given as goal
-
-abbrev pub invariant-loop-table : goal.invariant-loop-table
-invariant-loop-table l = l.indexes ≡ take l.table (edge_keys (graph_of l.layout l.parts))
