@@ -16,13 +16,13 @@ ghost use Rattle.graph_snap.specs.Indexes.{AreIndexes};
 use crate::cells::{place_at, place_slice};
 use crate::indexes::{edge_indexes, first_row, kept_indexes, vertex_indexes};
 use crate::layout::Layout;
-use crate::plain::{edge_tables, vertex_tables};
+use crate::plain::{edge_tables, edge_values, vertex_tables, vertex_values};
 use crate::sharing::{derived_parts, kept_slots, share_indexes, share_parts};
 use crate::{Built, Derived, EdgeAt, VertexAt};
 use column_types::{Cell, Column, List, NoMemory, Shared, Steps};
 use csr_rows::Rows;
 use graph_columns::{GraphParts, TableIndex, all_parts, key_slice};
-use graph_model::Graph;
+use graph_model::{EdgeRow, Graph, VertexRow};
 use graph_schema::Schema;
 use graph_slots::{Part, SlotName};
 use std::alloc::Global;
@@ -367,6 +367,33 @@ impl Snapshot {
     {
         self.column(SlotName::EdgeProp(at.table, prop))
             .get(at.place)
+    }
+
+    /// A copy of a vertex, with its values.
+    pub fn vertex_row(&self, alloc: Global, at: VertexAt) -> Result<VertexRow, NoMemory>
+        requires { HasVertex self.now at }
+        ensures { IfOk result (λ row. slice_get (rows_at self.now.vertices at.table) at.place ≡ Some row) }
+    {
+        let values = vertex_values(alloc, self, at)?;
+        Ok(VertexRow {
+            key: self.vertex_key(at),
+            values,
+        })
+    }
+
+    /// A copy of an edge, with its values.
+    pub fn edge_row(&self, alloc: Global, at: EdgeAt) -> Result<EdgeRow, NoMemory>
+        requires { HasEdge self.now at }
+        ensures { IfOk result (λ row. slice_get (rows_at self.now.edges at.table) at.place ≡ Some row) }
+    {
+        let values = edge_values(alloc, self, at)?;
+        let (source, destination) = self.ends(at);
+        Ok(EdgeRow {
+            key: self.edge_key(at),
+            source: self.vertex_key(source),
+            destination: self.vertex_key(destination),
+            values,
+        })
     }
 
     /// The vertices where an edge starts and ends.

@@ -1,2 +1,4 @@
 pub mod Tables
+pub mod RowLines
+pub mod KeyEdges
 pub mod Printable

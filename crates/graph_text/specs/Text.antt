@@ -37,10 +37,15 @@ edge_line table e =
 abbrev pub keys_line : List ℕ → VertexTable → ℤ → List ℤ → List ℕ
 keys_line word table key edges = heading word table.name key ++ codes ":" ++ flat_map spaced_number edges ++ codes "\n"
 
--- the two lines of a vertex, where leave and enter tell the keys of the edges that leave and enter the vertex of a key
-abbrev pub two_lines : (leave enter : ℤ → List ℤ) → VertexTable → VertexRow → List ℕ
-two_lines leave enter table v =
-    keys_line (codes "out") table v.key (leave v.key) ++ keys_line (codes "in") table v.key (enter v.key)
+-- the two lines of the vertex of a key: the edges that leave it, and those that enter it
+abbrev pub two_lines : GraphData → VertexTable → ℤ → List ℕ
+two_lines g table key =
+    keys_line (codes "out") table key (leaving (all_edges g.edges) key)
+    ++ keys_line (codes "in") table key (entering (all_edges g.edges) key)
+
+-- the same of a vertex
+abbrev pub ends_of_vertex : GraphData → VertexTable → VertexRow → List ℕ
+ends_of_vertex g table v = two_lines g table v.key
 
 -- the lines of all rows, by tables and then by places in the table; each is told by its table and itself
 abbrev pub by_tables : {T R : Type 0} → (T → R → List ℕ) → List T → List (List R) → List ℕ
@@ -58,4 +63,4 @@ text_of g =
     count_line g
     ++ by_tables vertex_line g.schema.vertices g.vertices
     ++ by_tables edge_line g.schema.edges g.edges
-    ++ by_tables (two_lines (leaving (all_edges g.edges)) (entering (all_edges g.edges))) g.schema.vertices g.vertices
+    ++ by_tables (ends_of_vertex g) g.schema.vertices g.vertices

@@ -2,10 +2,8 @@
 ghost use Rattle.std.specs.Prelude.{◌≡◌, ◌++◌, OnOk, IsTrue, codes};
 ghost use Rattle.std.specs.List.{flat_map, list_all};
 ghost use Rattle.column_types.specs.Value.{is_printable};
-ghost use Rattle.graph_text.specs.Ends.{keys_under};
-ghost use Rattle.graph_text.specs.Text.{spaced_number, spaced_value, heading, vertex_line, edge_line, keys_line, two_lines};
+ghost use Rattle.graph_text.specs.Text.{spaced_number, spaced_value, heading, vertex_line, edge_line};
 
-use crate::ends::Ends;
 use crate::number::push_number;
 use column_types::{NoMemory, Text, Value, value_text};
 use graph_model::{EdgeRow, VertexRow};
@@ -13,20 +11,11 @@ use graph_schema::{EdgeTable, VertexTable};
 use std::alloc::Global;
 
 /// Appends a space and a number.
-fn push_spaced(out: &mut Text, n: i64) -> Result<(), NoMemory>
+pub fn push_spaced(out: &mut Text, n: i64) -> Result<(), NoMemory>
     ensures { OnOk result (out.new ≡ out.old ++ spaced_number n) }
 {
     out.push(" ")?;
     push_number(out, n)
-}
-
-fn push_keys(out: &mut Text, keys: &[i64]) -> Result<(), NoMemory>
-    ensures { OnOk result (out.new ≡ out.old ++ flat_map spaced_number keys.now) }
-{
-    for key in keys {
-        push_spaced(out, *key)?;
-    }
-    Ok(())
 }
 
 /// Appends values, a space before each.
@@ -42,7 +31,7 @@ fn push_values(alloc: Global, out: &mut Text, values: &[Value]) -> Result<(), No
 }
 
 /// Appends two spaces, a word, the name of a table and a key.
-fn push_heading(out: &mut Text, word: &str, table: &Text, key: i64) -> Result<(), NoMemory>
+pub fn push_heading(out: &mut Text, word: &str, table: &Text, key: i64) -> Result<(), NoMemory>
     ensures { OnOk result (out.new ≡ out.old ++ heading word.now table.now key) }
 {
     out.push("  ")?;
@@ -95,33 +84,4 @@ pub fn push_edge(
 {
     push_heading(out, "e", &table.name, row.key)?;
     push_edge_end(alloc, out, row)
-}
-
-/// Appends a line of the keys of edges.
-fn push_keys_line(
-    out: &mut Text,
-    word: &str,
-    table: &VertexTable,
-    key: i64,
-    edges: &[i64],
-) -> Result<(), NoMemory>
-    ensures { OnOk result (out.new ≡ out.old ++ keys_line word.now table.now key edges.now) }
-{
-    push_heading(out, word, &table.name, key)?;
-    out.push(":")?;
-    push_keys(out, edges)?;
-    out.push("\n")
-}
-
-/// Appends the two lines of the edges at a vertex.
-pub fn push_ends(
-    out: &mut Text,
-    table: &VertexTable,
-    row: &VertexRow,
-    ends: &Ends,
-) -> Result<(), NoMemory>
-    ensures { OnOk result (out.new ≡ out.old ++ two_lines (keys_under ends.now.leaving) (keys_under ends.now.entering) table.now row.now) }
-{
-    push_keys_line(out, "out", table, row.key, ends.leaving(row.key))?;
-    push_keys_line(out, "in", table, row.key, ends.entering(row.key))
 }

@@ -1,48 +1,50 @@
 //! The text of a graph.
-ghost use Rattle.std.specs.Prelude.{◌≡◌, ◌++◌, All, IfOk, OnOk, IsTrue};
-ghost use Rattle.std.specs.List.{flat_map, list_all};
-ghost use Rattle.column_types.specs.Value.{is_printable};
-ghost use Rattle.graph_text.specs.Ends.{keys_under, all_edges, leaving, entering};
-ghost use Rattle.graph_text.specs.Text.{vertex_line, edge_line, two_lines, by_tables, count_line, text_of};
+ghost use Rattle.std.specs.Prelude.{◌≡◌, ◌<◌, ◌++◌, IfOk, OnOk, length};
+ghost use Rattle.std.specs.List.{flat_map};
+ghost use Rattle.graph_model.specs.Keys.{rows_at};
+ghost use Rattle.graph_text.specs.Text.{vertex_line, edge_line, ends_of_vertex, by_tables, count_line, text_of};
 
-use crate::ends::Ends;
-use crate::lines::{push_edge, push_ends, push_vertex};
+use crate::lines::{push_edge, push_vertex};
 use crate::number::push_count;
+use crate::totals::{edge_total, vertex_total};
+use crate::vertex_edges::push_two_lines;
 use column_types::{NoMemory, Text};
-use graph_model::{EdgeRow, Graph, VertexRow};
 use graph_schema::{EdgeTable, VertexTable};
+use graph_snap::{EdgeAt, Snapshot, VertexAt};
 use std::alloc::Global;
 
-/// The text of a graph: the numbers of its vertices and edges, a line for each vertex and for each edge, and for each
-/// vertex the keys of the edges that leave it and of those that enter it, all by positions. Time and memory are
-/// proportional to what is printed.
-pub fn graph_text(alloc: Global, graph: &Graph) -> Result<Text, NoMemory>
-    ensures { IfOk result (λ text. text ≡ text_of graph.now) }
+/// The text of a snapshot's graph: the numbers of its vertices and edges, a line for each vertex and for each edge, and for each
+/// vertex the keys of the edges that leave it and of those that enter it, all by positions. Beside the text it takes memory for
+/// one row at a time. It takes time in proportion to what is printed, and for each vertex to the number of edge tables.
+pub fn graph_text(alloc: Global, on: &Snapshot) -> Result<Text, NoMemory>
+    ensures { IfOk result (λ text. text ≡ text_of on.now) }
 {
     let mut out = Text::new(alloc);
-    push_counts(&mut out, graph)?;
-    push_vertices(alloc, &mut out, graph)?;
-    push_edges(alloc, &mut out, graph)?;
-    push_all_ends(alloc, &mut out, graph)?;
+    push_counts(&mut out, on)?;
+    push_vertices(alloc, &mut out, on)?;
+    push_edges(alloc, &mut out, on)?;
+    push_ends(&mut out, on)?;
     Ok(out)
 }
 
-fn push_counts(out: &mut Text, graph: &Graph) -> Result<(), NoMemory>
-    ensures { OnOk result (out.new ≡ out.old ++ count_line graph.now) }
+fn push_counts(out: &mut Text, on: &Snapshot) -> Result<(), NoMemory>
+    ensures { OnOk result (out.new ≡ out.old ++ count_line on.now) }
 {
+    let vertices = vertex_total(on);
+    let edges = edge_total(on);
     out.push("  ok ")?;
-    push_count(out, graph.vertex_count() as u64)?;
+    push_count(out, vertices)?;
     out.push(" ")?;
-    push_count(out, graph.edge_count() as u64)?;
+    push_count(out, edges)?;
     out.push("\n")
 }
 
-fn push_vertices(alloc: Global, out: &mut Text, graph: &Graph) -> Result<(), NoMemory>
-    ensures { OnOk result (out.new ≡ out.old ++ by_tables vertex_line graph.now.schema.vertices graph.now.vertices) }
+fn push_vertices(alloc: Global, out: &mut Text, on: &Snapshot) -> Result<(), NoMemory>
+    ensures { OnOk result (out.new ≡ out.old ++ by_tables vertex_line on.now.schema.vertices on.now.vertices) }
 {
-    graph.sound();
-    for (place, table) in graph.schema().vertices().iter().enumerate() {
-        push_vertex_rows(alloc, out, table, graph.vertex_rows(place as u32))?;
+    on.sound();
+    for (table, shape) in on.schema().vertices().iter().enumerate() {
+        push_vertex_rows(alloc, out, on, table as u32, shape)?;
     }
     Ok(())
 }
@@ -50,24 +52,27 @@ fn push_vertices(alloc: Global, out: &mut Text, graph: &Graph) -> Result<(), NoM
 fn push_vertex_rows(
     alloc: Global,
     out: &mut Text,
-    table: &VertexTable,
-    rows: &[VertexRow],
+    on: &Snapshot,
+    table: u32,
+    shape: &VertexTable,
 ) -> Result<(), NoMemory>
-    requires { All (λ r. IsTrue (list_all is_printable r.values)) rows.now }
-    ensures { OnOk result (out.new ≡ out.old ++ flat_map (vertex_line table.now) rows.now) }
+    requires { table < length on.now.schema.vertices }
+    ensures { OnOk result (out.new ≡ out.old ++ flat_map (vertex_line shape.now) (rows_at on.now.vertices table)) }
 {
-    for row in rows {
-        push_vertex(alloc, out, table, row)?;
+    on.sound();
+    for place in 0..on.vertex_count(table) {
+        let row = on.vertex_row(alloc, VertexAt { table, place })?;
+        push_vertex(alloc, out, shape, &row)?;
     }
     Ok(())
 }
 
-fn push_edges(alloc: Global, out: &mut Text, graph: &Graph) -> Result<(), NoMemory>
-    ensures { OnOk result (out.new ≡ out.old ++ by_tables edge_line graph.now.schema.edges graph.now.edges) }
+fn push_edges(alloc: Global, out: &mut Text, on: &Snapshot) -> Result<(), NoMemory>
+    ensures { OnOk result (out.new ≡ out.old ++ by_tables edge_line on.now.schema.edges on.now.edges) }
 {
-    graph.sound();
-    for (place, table) in graph.schema().edges().iter().enumerate() {
-        push_edge_rows(alloc, out, table, graph.edge_rows(place as u32))?;
+    on.sound();
+    for (table, shape) in on.schema().edges().iter().enumerate() {
+        push_edge_rows(alloc, out, on, table as u32, shape)?;
     }
     Ok(())
 }
@@ -75,46 +80,44 @@ fn push_edges(alloc: Global, out: &mut Text, graph: &Graph) -> Result<(), NoMemo
 fn push_edge_rows(
     alloc: Global,
     out: &mut Text,
-    table: &EdgeTable,
-    rows: &[EdgeRow],
+    on: &Snapshot,
+    table: u32,
+    shape: &EdgeTable,
 ) -> Result<(), NoMemory>
-    requires { All (λ r. IsTrue (list_all is_printable r.values)) rows.now }
-    ensures { OnOk result (out.new ≡ out.old ++ flat_map (edge_line table.now) rows.now) }
+    requires { table < length on.now.schema.edges }
+    ensures { OnOk result (out.new ≡ out.old ++ flat_map (edge_line shape.now) (rows_at on.now.edges table)) }
 {
-    for row in rows {
-        push_edge(alloc, out, table, row)?;
+    on.sound();
+    for place in 0..on.edge_count(table) {
+        let row = on.edge_row(alloc, EdgeAt { table, place })?;
+        push_edge(alloc, out, shape, &row)?;
     }
     Ok(())
 }
 
-fn push_all_ends(alloc: Global, out: &mut Text, graph: &Graph) -> Result<(), NoMemory>
-    ensures { OnOk result (out.new ≡ out.old ++ by_tables (two_lines (leaving (all_edges graph.now.edges)) (entering (all_edges graph.now.edges))) graph.now.schema.vertices graph.now.vertices) }
+/// Appends for each vertex the lines of the edges at it.
+fn push_ends(out: &mut Text, on: &Snapshot) -> Result<(), NoMemory>
+    ensures { OnOk result (out.new ≡ out.old ++ by_tables (ends_of_vertex on.now) on.now.schema.vertices on.now.vertices) }
 {
-    let ends = Ends::of(alloc, graph)?;
-    push_table_ends(out, graph, &ends)?;
-    Ok(())
-}
-
-fn push_table_ends(out: &mut Text, graph: &Graph, ends: &Ends) -> Result<(), NoMemory>
-    ensures { OnOk result (out.new ≡ out.old ++ by_tables (two_lines (keys_under ends.now.leaving) (keys_under ends.now.entering)) graph.now.schema.vertices graph.now.vertices) }
-{
-    graph.sound();
-    for (place, table) in graph.schema().vertices().iter().enumerate() {
-        push_row_ends(out, table, graph.vertex_rows(place as u32), ends)?;
+    on.sound();
+    for (table, shape) in on.schema().vertices().iter().enumerate() {
+        push_table_ends(out, on, table as u32, shape)?;
     }
     Ok(())
 }
 
-fn push_row_ends(
+fn push_table_ends(
     out: &mut Text,
-    table: &VertexTable,
-    rows: &[VertexRow],
-    ends: &Ends,
+    on: &Snapshot,
+    table: u32,
+    shape: &VertexTable,
 ) -> Result<(), NoMemory>
-    ensures { OnOk result (out.new ≡ out.old ++ flat_map (two_lines (keys_under ends.now.leaving) (keys_under ends.now.entering) table.now) rows.now) }
+    requires { table < length on.now.schema.vertices }
+    ensures { OnOk result (out.new ≡ out.old ++ flat_map (ends_of_vertex on.now shape.now) (rows_at on.now.vertices table)) }
 {
-    for row in rows {
-        push_ends(out, table, row, ends)?;
+    for place in 0..on.vertex_count(table) {
+        let at = VertexAt { table, place };
+        push_two_lines(out, on, at, on.vertex_key(at), shape)?;
     }
     Ok(())
 }

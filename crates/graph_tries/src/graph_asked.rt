@@ -3,7 +3,7 @@
 //! | question | answer |
 //! |---|---|
 //! | `size` | how many vertices and edges there are |
-//! | `rows` | the text of the graph |
+//! | `rows` | the text of the snapshot of the graph |
 //! | `slots` | the names of the schema's slots |
 //! | `touches CHANGE` | the slots that a change touches where it fits |
 //! | `number N`, `count N` | a number, and one without sign, as they are printed |
@@ -15,6 +15,7 @@ use column_types::{List, NoMemory, Steps, Text};
 use csr_rows::Rows;
 use graph_model::{Change, Graph, Schema};
 use graph_slots::{SlotName, slot_names, touches};
+use graph_snap::Snapshot;
 use graph_text::{graph_text, push_count, push_number};
 use std::alloc::Global;
 use std::sync::ledger::Ledger;
@@ -31,7 +32,7 @@ pub fn ask_graph<L: Ledger, R: Threads + Sync>(
     let (word, rest) = cut(question, ' ');
     match word {
         "size" => size(alloc, graph),
-        "rows" => one_line(alloc, graph_text(alloc, graph)?.as_str()),
+        "rows" => rows(alloc, graph, steps),
         "slots" => slots(alloc, graph.schema()),
         "touches" => touched(alloc, graph.schema(), rest),
         "number" => number(alloc, rest),
@@ -47,6 +48,11 @@ fn size(alloc: Global, graph: &Graph) -> Result<Text, NoMemory> {
     out.push(" ")?;
     push_count(&mut out, u64::from(graph.edge_count()))?;
     Ok(out)
+}
+
+fn rows<L: Ledger>(alloc: Global, graph: &Graph, steps: &mut Steps<L>) -> Result<Text, NoMemory> {
+    let snapshot = Snapshot::build(alloc, graph, steps)?;
+    one_line(alloc, graph_text(alloc, &snapshot)?.as_str())
 }
 
 fn number(alloc: Global, word: &str) -> Result<Text, NoMemory> {

@@ -7,7 +7,7 @@
 //! | `around` | for each vertex the places of the edges that leave it, for each edge table, and of those that enter it |
 //! | `find KEY ..` | for each key where a vertex and where an edge has it, or `-` |
 //! | `names` | how many slots there are, and their names |
-//! | `back` | the text of the graph that the snapshot is turned back into |
+//! | `back` | the text of the snapshot of the graph that the snapshot is turned back into |
 //! | `shared QUESTION`, `assembled QUESTION` | the answer of a snapshot that shares the parts, or that is assembled from them |
 //! | `derived QUESTION` | the answer of a snapshot that is made from it and keeps all of its slots |
 ghost use Rattle.std.specs.Prelude.{◌≡◌, ◌<◌, ◌≤◌, All, map, length, IfOk};
@@ -39,45 +39,48 @@ pub fn ask_snapshot<L: Ledger, R: Threads + Sync>(
 ) -> Result<Text, NoMemory> {
     let snapshot = Snapshot::build(alloc, graph, steps)?;
     if let Some(question) = question.strip_prefix("shared ") {
-        return ask_shared(rt, alloc, &snapshot, question);
+        return ask_shared(rt, alloc, &snapshot, question, steps);
     }
     if let Some(question) = question.strip_prefix("assembled ") {
-        return ask_assembled(rt, alloc, &snapshot, question);
+        return ask_assembled(rt, alloc, &snapshot, question, steps);
     }
     if let Some(question) = question.strip_prefix("derived ") {
-        return ask_derived(rt, alloc, &snapshot, question);
+        return ask_derived(rt, alloc, &snapshot, question, steps);
     }
-    ask(rt, alloc, &snapshot, question)
+    ask(rt, alloc, &snapshot, question, steps)
 }
 
-fn ask_shared<R: Threads + Sync>(
+fn ask_shared<L: Ledger, R: Threads + Sync>(
     rt: &R,
     alloc: Global,
     on: &Snapshot,
     question: &str,
+    steps: &mut Steps<L>,
 ) -> Result<Text, NoMemory> {
     let shared = on.share(alloc)?;
-    ask(rt, alloc, &shared, question)
+    ask(rt, alloc, &shared, question, steps)
 }
 
-fn ask_assembled<R: Threads + Sync>(
+fn ask_assembled<L: Ledger, R: Threads + Sync>(
     rt: &R,
     alloc: Global,
     on: &Snapshot,
     question: &str,
+    steps: &mut Steps<L>,
 ) -> Result<Text, NoMemory> {
     let copy = assembled(alloc, on)?;
-    ask(rt, alloc, &copy, question)
+    ask(rt, alloc, &copy, question, steps)
 }
 
-fn ask_derived<R: Threads + Sync>(
+fn ask_derived<L: Ledger, R: Threads + Sync>(
     rt: &R,
     alloc: Global,
     on: &Snapshot,
     question: &str,
+    steps: &mut Steps<L>,
 ) -> Result<Text, NoMemory> {
     let built = derived(alloc, on)?;
-    ask(rt, alloc, &built.shot, question)
+    ask(rt, alloc, &built.shot, question, steps)
 }
 
 /// The snapshot that keeps each slot of a snapshot.
@@ -119,11 +122,12 @@ fn parts_of(alloc: Global, on: &Snapshot) -> Result<List<Part>, NoMemory>
 }
 
 /// The answer of a snapshot.
-fn ask<R: Threads + Sync>(
+fn ask<L: Ledger, R: Threads + Sync>(
     rt: &R,
     alloc: Global,
     on: &Snapshot,
     question: &str,
+    steps: &mut Steps<L>,
 ) -> Result<Text, NoMemory> {
     let (word, rest) = cut(question, ' ');
     match word {
@@ -132,14 +136,15 @@ fn ask<R: Threads + Sync>(
         "around" => around(alloc, on),
         "find" => found(alloc, on, rest),
         "names" => names(alloc, on),
-        "back" => back(alloc, on),
+        "back" => back(alloc, on, steps),
         _ => ask_digraph(rt, alloc, on, question),
     }
 }
 
-fn back(alloc: Global, on: &Snapshot) -> Result<Text, NoMemory> {
+fn back<L: Ledger>(alloc: Global, on: &Snapshot, steps: &mut Steps<L>) -> Result<Text, NoMemory> {
     let graph = on.to_graph(alloc)?;
-    one_line(alloc, graph_text(alloc, &graph)?.as_str())
+    let again = Snapshot::of_graph(alloc, graph, steps)?;
+    one_line(alloc, graph_text(alloc, &again)?.as_str())
 }
 
 fn names(alloc: Global, on: &Snapshot) -> Result<Text, NoMemory> {

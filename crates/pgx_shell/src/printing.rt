@@ -102,10 +102,7 @@ fn push_local(alloc: Global, text: &mut Text, reply: &LocalReply) -> Result<(), 
 {
     match reply {
         LocalReply::Done => text.push("  ok\n"),
-        LocalReply::Rows(snapshot) => {
-            let graph = snapshot.to_graph(alloc)?;
-            text.push(graph_text(alloc, &graph)?.as_str())
-        }
+        LocalReply::Rows(snapshot) => text.push(graph_text(alloc, snapshot)?.as_str()),
         LocalReply::Refused(refusal) => push_refusal(text, refusal),
     }
 }

@@ -1,11 +1,17 @@
 //! Cases of configurations, of table files and of inline lines.
+ghost use Rattle.std.specs.Prelude.{◌≡◌, ◌<◌};
+
 use crate::case::bytes_of;
 use crate::schema::{fault, push_tables};
-use column_types::{List, NoMemory, Text};
+use column_types::{List, NoMemory, Steps, Text};
 use graph_config::{Config, ConfigFault, read_config};
 use graph_model::Graph;
+use graph_snap::Snapshot;
 use graph_text::{graph_text, push_count};
 use std::alloc::Global;
+use std::marker::Brand;
+use std::sync::ledger::{Blank, Ledger};
+use std::thread::Threads;
 use table_loader::{LoadFault, read_inline, read_tables};
 
 /// The configuration `people`: persons with an age, and whom they know.
@@ -33,10 +39,10 @@ fn shown(alloc: Global, config: &Config) -> Result<Text, NoMemory> {
 }
 
 /// `tables CONFIG|FILE..`.
-pub fn tables(alloc: Global, rest: &str) -> Result<Text, NoMemory> {
+pub fn tables<R: Threads + Sync>(rt: &R, alloc: Global, rest: &str) -> Result<Text, NoMemory> {
     let (config, files) = rest.split_once('|').unwrap_or((rest, ""));
     match read_config(alloc, config_text(config).as_bytes()) {
-        Ok(config) => loaded(alloc, &config, files),
+        Ok(config) => loaded(rt, alloc, &config, files),
         Err(ConfigFault::At { number, path }) => fault(alloc, number, path.as_str()),
         Err(ConfigFault::NoMemory) => Err(NoMemory),
     }
@@ -51,12 +57,17 @@ fn config_text(word: &str) -> &str {
 }
 
 /// The graph of files, or their first fault.
-fn loaded(alloc: Global, config: &Config, texts: &str) -> Result<Text, NoMemory> {
+fn loaded<R: Threads + Sync>(
+    rt: &R,
+    alloc: Global,
+    config: &Config,
+    texts: &str,
+) -> Result<Text, NoMemory> {
     let files = files_of(alloc, texts)?;
     if files.len() != config.files.len() {
         return Text::from_str(alloc, "another number of files");
     }
-    graph_or_fault(alloc, read_tables(alloc, config, files.as_slice()))
+    graph_or_fault(rt, alloc, read_tables(alloc, config, files.as_slice()))
 }
 
 fn files_of(alloc: Global, texts: &str) -> Result<List<List<u8>>, NoMemory> {
@@ -67,12 +78,32 @@ fn files_of(alloc: Global, texts: &str) -> Result<List<List<u8>>, NoMemory> {
     Ok(files)
 }
 
-fn graph_or_fault(alloc: Global, read: Result<Graph, LoadFault>) -> Result<Text, NoMemory> {
+fn graph_or_fault<R: Threads + Sync>(
+    rt: &R,
+    alloc: Global,
+    read: Result<Graph, LoadFault>,
+) -> Result<Text, NoMemory> {
     match read {
-        Ok(graph) => graph_text(alloc, &graph),
+        Ok(graph) => shown_rows::<Brand, _>(rt, alloc, Blank::new(1), graph),
         Err(LoadFault::Bad { file, row, number }) => place(alloc, file, row, number),
         Err(LoadFault::NoMemory) => Err(NoMemory),
     }
+}
+
+/// The text of a graph, whose snapshot is made by a counter that nobody reads.
+fn shown_rows<L: Ledger, R: Threads + Sync>(
+    rt: &R,
+    alloc: Global,
+    blank: Blank,
+    graph: Graph,
+) -> Result<Text, NoMemory>
+    requires name { blank.name ≡ L.name }
+    requires parts { blank.parts ≡ L.parts }
+    requires some { 0 < blank.parts }
+{
+    let mut steps = Steps::<L>::new(rt, blank);
+    let snapshot = Snapshot::of_graph(alloc, graph, &mut steps)?;
+    graph_text(alloc, &snapshot)
 }
 
 /// The place of a fault, and its number.
@@ -87,10 +118,11 @@ fn place(alloc: Global, file: u32, row: u64, number: u32) -> Result<Text, NoMemo
 }
 
 /// `inline LINES`.
-pub fn inline(alloc: Global, rest: &str) -> Result<Text, NoMemory> {
+pub fn inline<R: Threads + Sync>(rt: &R, alloc: Global, rest: &str) -> Result<Text, NoMemory> {
     let vertices = vertices_of(alloc, rest)?;
     let edges = edges_of(alloc, rest)?;
     graph_or_fault(
+        rt,
         alloc,
         read_inline(alloc, vertices.as_slice(), edges.as_slice()),
     )

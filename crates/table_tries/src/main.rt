@@ -14,8 +14,8 @@
 //! | `name TEXT` | whether it is a name |
 //! | `schema TABLES\|TABLES` | the schema of vertex tables and edge tables, or their first fault |
 //! | `config JSON` | the tables that a configuration names, with their files, or its first fault |
-//! | `tables CONFIG\|FILE..` | the text of the graph of table files, or the first fault |
-//! | `inline LINES` | the text of the graph of `v KEY` and `e KEY SOURCE DESTINATION`, or the first fault |
+//! | `tables CONFIG\|FILE..` | the text of the snapshot of the graph of table files, or the first fault |
+//! | `inline LINES` | the text of the snapshot of the graph of `v KEY` and `e KEY SOURCE DESTINATION`, or the first fault |
 //!
 //! A KIND is a word of a configuration, such as `local_date`. A VALUE is `null` or a kind and a value, where a day is told by
 //! its number. TABLES stand between commas, each a name and properties such as `V a:long b:string`; an edge table goes from
@@ -74,8 +74,8 @@ fn told<R: Threads + Sync>(rt: &R, alloc: Global, case: &str) -> Result<Text, No
         "name" => schema::name(alloc, rest),
         "schema" => schema::schema(alloc, rest),
         "config" => graphs::config(alloc, rest),
-        "tables" => graphs::tables(alloc, rest),
-        "inline" => graphs::inline(alloc, rest),
+        "tables" => graphs::tables(rt, alloc, rest),
+        "inline" => graphs::inline(rt, alloc, rest),
         _ => Text::from_str(alloc, "no such word"),
     }
 }

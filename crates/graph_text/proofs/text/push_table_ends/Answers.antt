@@ -1,13 +1,14 @@
-use Rattle.std.proofs.Common.{ap, ◌∙◌, ◌<◌, subst, length, get_or}
-use Rattle.graph_text.specs.Ends.{keys_under}
-use Rattle.graph_text.specs.Text.{two_lines}
-use Rattle.graph_text.proofs.Tables.{more_lines}
+use Rattle.std.proofs.Common.{◌++◌, refl, ap, ◌∙◌, w64, FitsSigned, rules}
+use Rattle.std.proofs.lemmas.Int.{to_z-of_z}
+use Rattle.graph_model.specs.Keys.{rows_at}
+use Rattle.graph_text.specs.Text.{ends_of_vertex, two_lines}
+use Rattle.graph_text.proofs.RowLines.{key_lines_more}
 use Rattle.graph_text.proofs.text.push_table_ends.Goals as goal
 
 pub loop-place-preserved : goal.loop-place-preserved
 loop-place-preserved c =
-    let items = c.vertices-table-items.ensures ∙ ap (λ s. s.vertices) c.schema.ensures in
-    more_lines (two_lines (keys_under c.args.ends.now.leaving) (keys_under c.args.ends.now.entering)) c.args.graph.now.schema.vertices c.args.graph.now.vertices c.loop-place.place c.table-item.result c.vertex_rows.result.now c.args.out.now c.loop-place.out _
-    (subst (λ ts. c.loop-place.place < length ts) items c.loop-place-test.true)
-    (c.table-item.is ∙ ap (λ ts. get_or ts c.loop-place.place c.table-item.result) items)
-    c.vertex_rows.ensures c.loop-place.invariant c.in_ok-push_row_ends.ensures
+    let g = c.args.on.now in
+    let key : FitsSigned w64 c.vertex_key.result = search rules in
+    key_lines_more (ends_of_vertex g c.args.shape.now) (two_lines g c.args.shape.now) (rows_at g.vertices c.args.table) c.loop-place.place c.vertex_key.result c.args.out.now c.loop-place.out _
+    (λ r. refl) c.vertex_key.ensures c.loop-place.invariant
+    (c.in_ok-push_two_lines.ensures ∙ ap (λ k. c.loop-place.out ++ two_lines g c.args.shape.now k) (to_z-of_z w64 c.vertex_key.result key))

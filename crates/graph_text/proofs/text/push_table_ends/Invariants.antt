@@ -1,8 +1,8 @@
 use Rattle.std.proofs.Common.{◌≡◌, ◌++◌, take}
-use Rattle.graph_text.specs.Ends.{keys_under}
-use Rattle.graph_text.specs.Text.{by_tables, two_lines}
+use Rattle.std.specs.List.{flat_map}
+use Rattle.graph_model.specs.Keys.{rows_at}
+use Rattle.graph_text.specs.Text.{ends_of_vertex}
 use Rattle.graph_text.proofs.text.push_table_ends.Given as goal
 
 abbrev pub invariant-loop-place : goal.invariant-loop-place
-invariant-loop-place l =
-    l.out ≡ l.fn.out ++ by_tables (two_lines (keys_under l.ends.leaving) (keys_under l.ends.entering)) (take l.place l.graph.schema.vertices) l.graph.vertices
+invariant-loop-place l = l.out ≡ l.fn.out ++ flat_map (ends_of_vertex l.on l.shape) (take l.place (rows_at l.on.vertices l.table))
