@@ -4,3 +4,4 @@ pub mod Days
 pub mod Civil
 pub mod Keys
 pub mod Again
+pub mod WholeColumns

@@ -6,7 +6,7 @@ ghost use Rattle.column_types.specs.declared.kind.Kind.TheVariants as kind;
 ghost use Rattle.column_types.specs.declared.value.Value.TheVariants as value;
 
 use crate::nullable::Nullable;
-use crate::{Cell, Kind, NoMemory, Steps, Text, Value};
+use crate::{Cell, Kind, List, NoMemory, Steps, Text, Value};
 use std::alloc::Global;
 use std::marker::Model;
 use std::sync::ledger::Ledger;
@@ -244,6 +244,28 @@ fn no_cells(alloc: Global, kind: Kind) -> Cells
     }
 }
 
+/// A column of LONGs. It takes no memory, and nothing is copied.
+fn long_column(alloc: Global, longs: List<i64>) -> Column
+    requires { length longs < 4294967296 }
+    ensures { result ≡ record { kind = kind.Long; values = map value.Long longs } }
+{
+    let items = Nullable::of_items(alloc, longs.into_vec());
+    Column {
+        cells: Cells::Longs(items),
+    }
+}
+
+/// A column of INTEGERs. It takes no memory, and nothing is copied.
+fn integer_column(alloc: Global, integers: List<i32>) -> Column
+    requires { length integers < 4294967296 }
+    ensures { result ≡ record { kind = kind.Integer; values = map value.Integer integers } }
+{
+    let items = Nullable::of_items(alloc, integers.into_vec());
+    Column {
+        cells: Cells::Integers(items),
+    }
+}
+
 /// A column that can still be changed, seen as the column that it holds. It becomes a [`Column`] by `finish`, which copies
 /// nothing and counts a step for each value: no column comes to be without them.
 #[derive(Drop)]
@@ -272,6 +294,28 @@ impl EditableColumn {
             column: Column {
                 cells: no_cells(alloc, kind),
             },
+        }
+    }
+
+    /// The column of these LONGs. It takes no memory, and nothing is copied.
+    pub fn of_longs(alloc: Global, longs: List<i64>) -> EditableColumn
+        requires { length longs < 4294967296 }
+        ensures { result ≡ record { kind = kind.Long; values = map value.Long longs } }
+    {
+        EditableColumn {
+            alloc,
+            column: long_column(alloc, longs),
+        }
+    }
+
+    /// The column of these INTEGERs. It takes no memory, and nothing is copied.
+    pub fn of_integers(alloc: Global, integers: List<i32>) -> EditableColumn
+        requires { length integers < 4294967296 }
+        ensures { result ≡ record { kind = kind.Integer; values = map value.Integer integers } }
+    {
+        EditableColumn {
+            alloc,
+            column: integer_column(alloc, integers),
         }
     }
 

@@ -40,6 +40,16 @@ impl<T: Drop> Nullable<T> {
         }
     }
 
+    /// Items of which none is missing. It takes no memory.
+    pub fn of_items(alloc: Global, items: Vec<T>) -> Nullable<T>
+        ensures { result ≡ map Some items.items }
+    {
+        Nullable {
+            items,
+            missing: Vec::new(alloc),
+        }
+    }
+
     pub fn len(&self) -> usize
         ensures { result ≡ length self.now }
     {

@@ -15,7 +15,7 @@ use Rattle.graph_schema.specs.Fault.{fault_if, each_from, repeated_table, repeat
 use Rattle.graph_config.specs.declared.tables.Tables.{Tables}
 use Rattle.graph_config.specs.Fault.{Fault, ◌>>=◌}
 use Rattle.graph_config.specs.Check.{none_of, end_exists, table_ends, ends_from, checked}
-use Rattle.graph_config.specs.Place.{is_later}
+use Rattle.graph_config.specs.Locates.{is_later}
 
 abbrev all_later : List Location → Bool
 all_later = list_all (λ l. is_later (number_of l))

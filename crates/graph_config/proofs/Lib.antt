@@ -5,5 +5,11 @@ pub mod Items
 pub mod Kept
 pub mod Read
 pub mod Made
-pub mod Told
 pub mod Later
+pub mod Steps
+pub mod Fields
+pub mod Entries
+pub mod Accepted
+pub mod Found
+pub mod Formed
+pub mod Located

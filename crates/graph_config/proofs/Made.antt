@@ -20,7 +20,7 @@ use Rattle.graph_config.specs.Fault.{Fault, ◌>>=◌}
 use Rattle.graph_config.specs.Walk.{AreWalked}
 use Rattle.graph_config.specs.Check.{none_of, end_exists, table_ends, ends_from}
 
-none_wide : {T : Type 0} (side : Side) (props : T → List Prop) (ts : List T) → All (λ t. length (props t) ≤ 64) ts → wide_tables side props ts ≡ []
+pub none_wide : {T : Type 0} (side : Side) (props : T → List Prop) (ts : List T) → All (λ t. length (props t) ≤ 64) ts → wide_tables side props ts ≡ []
 none_wide side props ts h = each_empty (wide_table side props) ts (λ i d within. no_fault _ (Props side i) (le-ltb 64 _ (h i d within)))
 
 -- the walk lets no list pass that is too long
@@ -29,7 +29,7 @@ none_long t h few =
     nil_both _ _ (nil_both _ _ (nil_both _ _ (no_fault _ (TableList Vertices) (le-ltb 32 (length t.vertices) (omega arith))) (none_wide Vertices (λ v. v.props) t.vertices h.few_vertex_props))
     (no_fault _ (TableList Edges) (le-ltb 32 _ few))) (none_wide Edges (λ e. e.props) t.edges h.few_edge_props)
 
-none_there : (these : List Location) → none_of these ≡ Ok tt → these ≡ []
+pub none_there : (these : List Location) → none_of these ≡ Ok tt → these ≡ []
 none_there [] h = refl
 none_there (l ∷ these) h = cc
 
@@ -64,12 +64,12 @@ tested : (b : Bool) (f : Fault) → cond b fine (Err f) ≡ fine → b ≡ true
 tested true f h = refl
 tested false f h = cc
 
-there : (tables place : ℕ) (field : List ℕ) (end : ℕ) → end_exists tables place field end ≡ Ok tt → nat_lt end tables ≡ true
+pub there : (tables place : ℕ) (field : List ℕ) (end : ℕ) → end_exists tables place field end ≡ Ok tt → nat_lt end tables ≡ true
 unfolding end_exists
 there tables place field end h = tested (nat_lt end tables) _ h
 
 -- where two steps find no fault, neither does
-both_steps : (r s : Result (Unit {0}) Fault) → (r >>= (λ none. s)) ≡ Ok tt → (r ≡ Ok tt) × (s ≡ Ok tt)
+pub both_steps : (r s : Result (Unit {0}) Fault) → (r >>= (λ none. s)) ≡ Ok tt → (r ≡ Ok tt) × (s ≡ Ok tt)
 both_steps (Ok tt) s h = (refl, h)
 both_steps (Err f) s h = cc
 

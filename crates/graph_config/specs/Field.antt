@@ -7,6 +7,8 @@ use Rattle.serde_json.specs.Data.{Data, Items, no_items, item}
 use Rattle.serde_json.specs.Find.{get, as_str, as_array, as_object, as_number, as_u64}
 use Rattle.column_types.specs.declared.kind.Kind.{Kind}
 use Rattle.column_types.specs.declared.kind.Kind.TheVariants as kind
+use Rattle.graph_schema.specs.declared.schema.Keys.{Keys}
+use Rattle.graph_schema.specs.declared.schema.Keys.TheVariants.{Whole, PerTable}
 use Rattle.graph_schema.specs.Name.{is_name, continues_name}
 use Rattle.graph_config.specs.Fault.{Fault, ◌>>=◌, required, allowed}
 
@@ -93,13 +95,22 @@ kind_at path field d = string_at path field d >>= (λ word. allowed (field_path 
 
 -- ---- fields of the whole, whose paths are their names
 
-abbrev pub is_one : Option ℕ → Bool
-is_one None = false
-is_one (Some n) = n == 1
+abbrev pub is_one_or_two : Option ℕ → Bool
+is_one_or_two None = false
+is_one_or_two (Some n) = n == 1 || n == 2
 
--- the number 1, without fraction or exponent
+-- the number 1 or 2, without fraction or exponent
 abbrev pub is_version : Data → Bool
-is_version d = is_one (option_and_then as_u64 (as_number d))
+is_version d = is_one_or_two (option_and_then as_u64 (as_number d))
+
+-- keys differ within each table where the version is 2, and else over all tables
+abbrev pub keys_for : Option ℕ → Keys
+keys_for None = Whole
+keys_for (Some n) = if n == 2 then PerTable else Whole
+
+abbrev pub keys_of : Option Data → Keys
+keys_of None = Whole
+keys_of (Some d) = keys_for (option_and_then as_u64 (as_number d))
 
 -- a version, which may be missing
 unfoldable pub version_of : Option Data → Result (Unit {0}) Fault

@@ -3,4 +3,6 @@ pub mod Field
 pub mod Walk
 pub mod Check
 pub mod Config
-pub mod Place
+pub mod Document
+pub mod Form
+pub mod Locates

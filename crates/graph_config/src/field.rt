@@ -4,12 +4,12 @@ ghost use Rattle.std.specs.List.{list_all};
 ghost use Rattle.serde_json.specs.View.{view, items_view};
 ghost use Rattle.graph_schema.specs.Name.{is_name as name_test};
 ghost use Rattle.graph_config.specs.Fault.{Gives, GivesBy};
-ghost use Rattle.graph_config.specs.Field.{is_file_byte as file_byte_test, is_file_name as file_name_test, kind_of, object_at, list_at, optional_list_at, string_at, name_at, file_at, kind_at, version_of, top_list_at};
+ghost use Rattle.graph_config.specs.Field.{is_file_byte as file_byte_test, is_file_name as file_name_test, kind_of, object_at, list_at, optional_list_at, string_at, name_at, file_at, kind_at, version_of, keys_of as keys_of_version, top_list_at};
 
 use crate::ConfigFault;
 use crate::path::{fault_at, field_fault};
 use column_types::{Kind, Text};
-use graph_schema::is_name;
+use graph_schema::{Keys, is_name};
 use serde_json::Value;
 use std::alloc::Global;
 
@@ -78,7 +78,7 @@ pub fn top_list<'a>(
     list(alloc, field, most, value)
 }
 
-/// 5 where there is a version other than the number 1.
+/// 5 where there is a version other than the numbers 1 and 2.
 #[tactic(auto, using(crate::proofs::Faults::fails_at), unfolding(crate::specs::Field::version_of))]
 pub fn expect_version(alloc: Global, version: Option<&Value>) -> Result<(), ConfigFault>
     ensures { Gives result (version_of (option_map (λ v. view v.now) version.entry)) }
@@ -87,8 +87,21 @@ pub fn expect_version(alloc: Global, version: Option<&Value>) -> Result<(), Conf
         return Ok(());
     };
     match version.as_u64() {
-        Some(1) => Ok(()),
+        Some(1 | 2) => Ok(()),
         _ => Err(fault_at(alloc, 5, "version")),
+    }
+}
+
+/// Where keys differ: within each table where the version is 2, and else over all tables.
+pub fn keys_of(version: Option<&Value>) -> Keys
+    ensures { result ≡ keys_of_version (option_map (λ v. view v.now) version.entry) }
+{
+    let Some(version) = version else {
+        return Keys::Whole;
+    };
+    match version.as_u64() {
+        Some(2) => Keys::PerTable,
+        _ => Keys::Whole,
     }
 }
 

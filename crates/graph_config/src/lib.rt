@@ -5,7 +5,7 @@
 //!
 //! | object | field | value |
 //! |---|---|---|
-//! | the whole | `version` | optional, the number 1, without fraction or exponent |
+//! | the whole | `version` | optional, the number 1 or 2, without fraction or exponent: where it is 2, keys differ within each table, else over all tables |
 //! | | `vertex_providers`, `edge_providers` | lists of tables, at most 32 in both together |
 //! | table | `name` | a name |
 //! | | `file` | a file name: 1 to 255 ASCII letters, digits, `_`, `.`, `-` and `/` |
@@ -21,14 +21,16 @@
 //! names no vertex table) and 50 (a property's name has another kind in an earlier table of its list).
 //!
 //! A [`Config`] is seen as its schema and the list of its file names. `specs/Walk.antt` has the walk, `specs/Check.antt` what
-//! is looked for after it, and `specs/Config.antt` the whole. `specs/Place.antt` says in other words what a fault tells of the
-//! place that its path names.
+//! is looked for after it, and `specs/Config.antt` the whole. In words that speak of no walk, `specs/Document.antt` says which
+//! configuration a JSON value states ([`accepted_configurations`]), `specs/Form.antt` which form it is to have, where it has a
+//! fault, and which fault is the first, and `specs/Locates.antt` what an error tells ([`the_first_fault`]).
 #![tactic(auto)]
 
 mod config;
 mod ends;
 mod fault;
 mod field;
+mod laws;
 mod names;
 mod path;
 mod tables;
@@ -36,3 +38,4 @@ mod walk;
 
 pub use config::{Config, read_config};
 pub use fault::ConfigFault;
+pub use laws::{accepted_configurations, the_first_fault};

@@ -1,16 +1,22 @@
 -- What a schema is.
 use Rattle.std.specs.Prelude.{◌≡◌, Bool, ◌&&◌, nat_lt, List, [], length, IsTrue}
 use Rattle.std.specs.List.{list_all}
+use Rattle.graph_schema.specs.declared.schema.Keys.{Keys}
 use Rattle.graph_schema.specs.declared.schema.Prop.{Prop}
 use Rattle.graph_schema.specs.declared.schema.VertexTable.{VertexTable}
 use Rattle.graph_schema.specs.declared.schema.EdgeTable.{EdgeTable}
 use Rattle.graph_schema.specs.Name.{is_name}
 use Rattle.graph_schema.specs.Fault.{schema_faults}
 
--- vertex tables in order and edge tables in order
+-- where keys differ, vertex tables in order and edge tables in order
 pub record SchemaData : Type 0 where
+  pub keys : Keys
   pub vertices : List VertexTable
   pub edges : List EdgeTable
+
+-- the schema of keys and tables
+abbrev pub schema_with : Keys → List VertexTable → List EdgeTable → SchemaData
+schema_with keys vs es = record { keys = keys; vertices = vs; edges = es }
 
 -- the properties of a table have names
 abbrev pub props_named : List Prop → Bool

@@ -32,47 +32,69 @@ pub struct EdgeTable {
     pub props: List<Prop>,
 }
 
-/// Vertex tables in order and edge tables in order. What every schema keeps is `IsSchema`.
+/// Where keys differ.
+#[derive(Clone, Copy, Debug, PartialEq, Eq)]
+pub enum Keys {
+    /// Over all vertices of a graph, and over all its edges.
+    Whole,
+    /// Within each table: two tables may use the same keys.
+    PerTable,
+}
+
+/// Where keys differ, vertex tables in order and edge tables in order. What every schema keeps is `IsSchema`.
 #[derive(Debug, Drop, PartialEq, Eq)]
 pub struct Schema {
+    pub keys: Keys,
     pub vertices: List<VertexTable>,
     pub edges: List<EdgeTable>,
 }
 
 impl Model for Schema {
-    ghost use Rattle.graph_schema.specs.Schema.{SchemaData, IsSchema};
+    ghost use Rattle.graph_schema.specs.Schema.{SchemaData, IsSchema, schema_with};
 
     ghost Value = { SchemaData };
 
-    ghost view = { λ s. record { vertices = s.vertices; edges = s.edges } };
+    ghost view = { λ s. schema_with s.keys s.vertices s.edges };
 
-    ghost inverse = { λ s. record { vertices = s.vertices; edges = s.edges } };
+    ghost inverse = { λ s. record { keys = s.keys; vertices = s.vertices; edges = s.edges } };
 
-    ghost invariant = { λ s. IsSchema (record { vertices = s.vertices; edges = s.edges }) };
+    ghost invariant = { λ s. IsSchema (schema_with s.keys s.vertices s.edges) };
 }
 
 impl Schema {
-    /// The schema of the tables, or their first fault: 52 for a list that is too long, 6 for a name that repeats, 50 for a
+    /// The schema of the tables, with keys that differ where `keys` says, or the tables' first fault: 52 for a list that is too long, 6 for a name that repeats, 50 for a
     /// property whose name has another kind in an earlier table of its list. After an error the tables are dropped.
     ///
     /// The callers know that names are names and that edge tables end in vertex tables: `all_named` and `ends_exist`
     /// tell. Memory is taken only for the path of a fault.
     pub fn new(
         alloc: Global,
+        keys: Keys,
         vertices: List<VertexTable>,
         edges: List<EdgeTable>,
     ) -> Result<Schema, SchemaFault>
         requires named { IsTrue (all_named vertices edges) }
         requires ends { IsTrue (ends_exist vertices edges) }
-        ensures { GivesSchema vertices edges result }
+        ensures { GivesSchema keys vertices edges result }
     {
         match first_fault(vertices.as_slice(), edges.as_slice()) {
-            None => Ok(Schema { vertices, edges }),
+            None => Ok(Schema {
+                keys,
+                vertices,
+                edges,
+            }),
             Some(found) => Err(SchemaFault::At {
                 number: found.number(),
                 path: found.path(alloc)?,
             }),
         }
+    }
+
+    /// Where keys differ.
+    pub fn keys(&self) -> Keys
+        ensures { result ≡ self.now.keys }
+    {
+        self.keys
     }
 
     /// The vertex tables in order.
@@ -102,6 +124,7 @@ impl Clone for Schema {
 
     fn clone(&self) -> Result<Schema, AllocError> {
         Ok(Schema {
+            keys: self.keys,
             vertices: self.vertices.clone()?,
             edges: self.edges.clone()?,
         })
