@@ -9,22 +9,23 @@ use Rattle.graph_schema.specs.declared.schema.EdgeTable.{EdgeTable}
 use Rattle.graph_model.specs.declared.row.VertexRow.{VertexRow}
 use Rattle.graph_model.specs.declared.row.EdgeRow.{EdgeRow}
 use Rattle.graph_model.specs.declared.change.Change.TheVariants.{InsertEdge, DeleteEdge, SetEdge}
-use Rattle.graph_model.specs.Keys.{rows_at}
-use Rattle.graph_model.specs.Graph.{GraphData, IsGraph, AreValues, AreEdges, IsEdge, edge_props_at, edge_table_props, source_at, destination_at, source_table, destination_table, edge_key, edge_values, has_edge, has_edge_in, has_vertex_in, kinds_fit, edge_total, cell_total, most_edges, most_cells}
+use Rattle.graph_model.specs.Keys.{rows_at, is_taken}
+use Rattle.graph_model.specs.Graph.{GraphData, IsGraph, AreValues, AreEdges, IsEdge, edge_props_at, edge_table_props, source_at, destination_at, source_table, destination_table, edge_key, edge_values, has_edge_in, has_vertex_in, kinds_fit, edge_total, cell_total, most_edges, most_cells}
 use Rattle.graph_model.specs.Change.{misfit, changed, kind_fits_at, with_edge_value}
-use Rattle.graph_model.proofs.Rows.{or_false, not_false, count_once, total_push, sum_push}
+use Rattle.graph_model.proofs.Rows.{or_false, not_false, total_push, sum_push}
 use Rattle.graph_model.proofs.Zips.{no_cause, AllZip-set, AllZip-length}
 use Rattle.graph_model.proofs.VertexChanges.{values_set}
-use Rattle.graph_model.proofs.Totals.{keys_without, rows_without, values_without, keys_changed, rows_changed, values_changed}
+use Rattle.graph_model.proofs.Totals.{rows_without, values_without, counts_without, rows_changed, values_changed, counts_changed}
+use Rattle.graph_model.proofs.Distinct.{distinct_push, distinct_less}
 
 -- ---- insert
 
--- what it takes to insert a vertex
+-- what it takes to insert an edge
 pub record FitsEdge (g : GraphData) (t : ℕ) (k s d : ℤ) (vs : List Value) : Type 0 where
   pub table : t < length g.schema.edges
   pub count : length vs ≡ length (edge_props_at g.schema t)
   pub kinds : kinds_fit (edge_props_at g.schema t) vs ≡ true
-  pub key : has_edge k g.edges ≡ false
+  pub key : is_taken g.schema.keys edge_key k g.edges t ≡ false
   pub source : has_vertex_in s (rows_at g.vertices (source_at g.schema t)) ≡ true
   pub destination : has_vertex_in d (rows_at g.vertices (destination_at g.schema t)) ≡ true
   pub room : edge_total g + 1 ≤ most_edges
@@ -36,7 +37,7 @@ fits_edge g t k s d vs e =
     let a = no_cause (not (nat_lt t (length g.schema.edges))) _ _ e in
     let b = no_cause (not (length vs == length props)) _ _ a.1 in
     let c = no_cause (not (kinds_fit props vs)) _ _ b.1 in
-    let f = no_cause (has_edge k g.edges) _ _ c.1 in
+    let f = no_cause (is_taken g.schema.keys edge_key k g.edges t) _ _ c.1 in
     let from = has_vertex_in s (rows_at g.vertices (source_at g.schema t)) in
     let to = has_vertex_in d (rows_at g.vertices (destination_at g.schema t)) in
     let h = no_cause (not from || not to) _ _ f.1 in
@@ -74,7 +75,7 @@ insert_keeps g t k s d vs is fits =
           } in
           All-push (IsEdge g.vertices x) _ row rows edge);
       vertex_keys = is.vertex_keys;
-      edge_keys = λ q. count_once (λ r. int_eq r.key q) g.edges t row within (is.edge_keys q) (λ e. subst (λ z. has_edge z g.edges ≡ false) ((Decides-int_eq k q).0 e) fits.key);
+      edge_keys = distinct_push g.schema.keys edge_key g.edges t row within is.edge_keys fits.key;
       few_vertices = is.few_vertices;
       few_edges = omega (arith, total_push g.edges t row within, fits.room);
       few_cells = omega (arith, sum_push (λ r. length (edge_values r)) g.edges t row within, fits.cells);
@@ -82,7 +83,7 @@ insert_keeps g t k s d vs is fits =
 
 -- ---- delete
 
--- what it takes to delete a vertex
+-- what it takes to delete an edge
 pub record FitsDelete (g : GraphData) (t : ℕ) (k : ℤ) : Type 0 where
   pub table : t < length g.schema.edges
   pub key : has_edge_in k (rows_at g.edges t) ≡ true
@@ -103,7 +104,7 @@ delete_keeps g t k is fits =
       edges = AllZip-set (AreEdges g.vertices) g.schema.edges g.edges t _ [] is.edges
           (λ x at rows. All-filter (λ r. not (int_eq r.key k)) (IsEdge g.vertices x) _ rows);
       vertex_keys = is.vertex_keys;
-      edge_keys = λ q. omega (arith, keys_without edge_key edge_values g.edges t k within q, is.edge_keys q);
+      edge_keys = distinct_less g.schema.keys edge_key g.edges t _ within is.edge_keys (counts_without edge_key k (rows_at g.edges t));
       few_vertices = is.few_vertices;
       few_edges = omega (arith, rows_without edge_key edge_values g.edges t k within, is.few_edges);
       few_cells = omega (arith, values_without edge_key edge_values g.edges t k within, is.few_cells);
@@ -123,7 +124,7 @@ width_stays : (p : ℕ) (v : Value) (r : EdgeRow) (b : Bool) → length (edge_va
 width_stays p v r true = length-set r.values p v
 width_stays p v r false = refl
 
--- what it takes to set a value of a vertex
+-- what it takes to set a value of an edge
 pub record FitsSet (g : GraphData) (t : ℕ) (k : ℤ) (p : ℕ) (v : Value) : Type 0 where
   pub table : t < length g.schema.edges
   pub kind : kind_fits_at (edge_props_at g.schema t) p v ≡ true
@@ -150,7 +151,7 @@ set_keeps g t k p v is fits =
           let kind = subst (λ o. kind_fits_at (edge_table_props o) p v ≡ true) at fits.kind in
           All-map (IsEdge g.vertices x) (λ r. cond (int_eq r.key k) (with_edge_value p v r) r) (rows_at g.edges t) (λ i d h. edge_stays g.vertices x p v (get_or (rows_at g.edges t) i d) _ kind (rows i d h)));
       vertex_keys = is.vertex_keys;
-      edge_keys = λ q. omega (arith, is.edge_keys q, keys_changed edge_key edge_values g.edges t k within set_one (λ z r. key_stays p v z r (int_eq r.key k)) q);
+      edge_keys = distinct_less g.schema.keys edge_key g.edges t _ within is.edge_keys (counts_changed edge_key k set_one (rows_at g.edges t) (λ z r. key_stays p v z r (int_eq r.key k)));
       few_vertices = is.few_vertices;
       few_edges = omega (arith, rows_changed edge_key edge_values g.edges t k within set_one, is.few_edges);
       few_cells = omega (arith, values_changed edge_key edge_values g.edges t k within set_one (λ r. width_stays p v r (int_eq r.key k)), is.few_cells);

@@ -1,7 +1,6 @@
 -- Graphs without rows are graphs, and graphs stay graphs.
-use Rattle.std.proofs.Common.{◌≡◌, ℕ, zero, suc, ◌+◌, List, [], ◌∷◌, Option, Some, None, length, take, slice_get, refl, ap, ◌∙◌, arith, count_by, sum_by}
+use Rattle.std.proofs.Common.{◌≡◌, ℕ, zero, suc, ◌+◌, List, [], ◌∷◌, Option, Some, None, length, take, slice_get, refl, ap, ◌∙◌, arith, sum_by}
 use Rattle.std.specs.List.{fold}
-use Rattle.std.specs.Ordering.{int_eq}
 use Rattle.std.proofs.lemmas.List.Elements.{All-nil}
 use Rattle.graph_schema.specs.Schema.{SchemaData, IsSchema}
 use Rattle.graph_model.specs.declared.row.VertexRow.{VertexRow}
@@ -9,10 +8,11 @@ use Rattle.graph_model.specs.declared.row.EdgeRow.{EdgeRow}
 use Rattle.graph_model.specs.declared.change.Change.{Change}
 use Rattle.graph_model.specs.declared.change.Change.TheVariants.{InsertVertex, DeleteVertex, InsertEdge, DeleteEdge, SetVertex, SetEdge}
 use Rattle.graph_model.specs.declared.change.Why.{Why}
-use Rattle.graph_model.specs.Graph.{GraphData, IsGraph, AreValues, IsEdge, vertex_values, edge_values, empty_graph}
+use Rattle.graph_model.specs.Graph.{GraphData, IsGraph, AreValues, IsEdge, vertex_key, edge_key, vertex_values, edge_values, empty_graph}
 use Rattle.graph_model.specs.Change.{misfit, changed, changed_unless, apply, after}
 use Rattle.graph_model.proofs.Zips.{AllZip_empty}
 use Rattle.graph_model.proofs.Totals.{nothing}
+use Rattle.graph_model.proofs.Distinct.{distinct_nothing}
 use Rattle.graph_model.proofs.VertexChanges as v
 use Rattle.graph_model.proofs.EdgeChanges as e
 
@@ -21,8 +21,8 @@ empty_is_graph s is = record {
   schema = is;
   vertices = AllZip_empty _ s.vertices (λ t. All-nil (λ r. AreValues t.props r.values));
   edges = AllZip_empty _ s.edges (λ t. All-nil (IsEdge (empty_graph s).vertices t));
-  vertex_keys = λ k. omega (arith, nothing (λ (rows : List VertexRow). count_by (λ r. int_eq r.key k) rows) (length s.vertices) refl);
-  edge_keys = λ k. omega (arith, nothing (λ (rows : List EdgeRow). count_by (λ r. int_eq r.key k) rows) (length s.edges) refl);
+  vertex_keys = distinct_nothing s.keys vertex_key (length s.vertices);
+  edge_keys = distinct_nothing s.keys edge_key (length s.edges);
   few_vertices = omega (arith, nothing (λ (rows : List VertexRow). length rows) (length s.vertices) refl);
   few_edges = omega (arith, nothing (λ (rows : List EdgeRow). length rows) (length s.edges) refl);
   few_cells = omega (

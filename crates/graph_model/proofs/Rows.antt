@@ -1,5 +1,5 @@
 -- Tests on the rows of tables: what some row passes, and how many pass.
-use Rattle.std.proofs.Common.{◌≡◌, ℕ, zero, suc, ◌+◌, ◌<◌, ◌≤◌, Bool, true, false, ◌||◌, not, List, [], ◌∷◌, ◌++◌, Some, None, length, get_or, set, slice_get, remove, drop, refl, ap, sym, ◌∙◌, arith, sum_by, count_by, cond, filter, map}
+use Rattle.std.proofs.Common.{◌≡◌, ℕ, zero, suc, ◌+◌, ◌<◌, ◌≤◌, Bool, true, false, ◌||◌, ◌&&◌, not, List, [], ◌∷◌, ◌++◌, Some, None, length, get_or, set, slice_get, remove, drop, refl, ap, sym, ◌∙◌, arith, sum_by, count_by, cond, filter, map}
 use Rattle.std.specs.List.{list_any, refill, position, position_or_len}
 use Rattle.std.proofs.lemmas.Bool.Decides.{nat_tests}
 use Rattle.std.proofs.lemmas.List.{length_push, take_at}
@@ -11,6 +11,15 @@ use Rattle.std.proofs.lemmas.List.Folds.{list_any-append}
 pub or_false : (a b : Bool) → (a || b) ≡ false → (a ≡ false) × (b ≡ false)
 or_false true b e = cc
 or_false false b e = (refl, e)
+
+pub or_right : (a b : Bool) → b ≡ true → (a || b) ≡ true
+or_right true b e = refl
+or_right false b e = e
+
+-- of two tests of which not both hold, the second fails where the first holds
+pub and_false : (a b : Bool) → (a && b) ≡ false → a ≡ true → b ≡ false
+and_false true b e f = e
+and_false false b e f = cc
 
 pub not_false : (b : Bool) → not b ≡ false → b ≡ true
 not_false true e = refl
@@ -24,11 +33,11 @@ pub counts_one : (b : Bool) → b ≡ true → cond {A = ℕ} b 1 0 ≡ 1
 counts_one true e = refl
 counts_one false e = cc
 
-if_false : {R : Type 0} (b : Bool) (x y : R) → b ≡ false → cond b x y ≡ y
+pub if_false : {R : Type 0} (b : Bool) (x y : R) → b ≡ false → cond b x y ≡ y
 if_false true x y e = cc
 if_false false x y e = refl
 
-if_true : {R : Type 0} (b : Bool) (x y : R) → b ≡ true → cond b x y ≡ x
+pub if_true : {R : Type 0} (b : Bool) (x y : R) → b ≡ true → cond b x y ≡ x
 if_true true x y e = refl
 if_true false x y e = cc
 
@@ -53,11 +62,11 @@ pub one_at_least : {R : Type 0} (p : R → Bool) (rows : List R) → list_any p 
 one_at_least p [] e = cc
 one_at_least p (r ∷ rows) e = one_by p r rows (one_at_least p rows) (p r) refl e
 
-none_here : (b : Bool) (n : ℕ) → cond {A = ℕ} b 1 0 + n ≡ 0 → (b ≡ false) × (n ≡ 0)
+pub none_here : (b : Bool) (n : ℕ) → cond {A = ℕ} b 1 0 + n ≡ 0 → (b ≡ false) × (n ≡ 0)
 none_here true n e = absurd (omega arith)
 none_here false n e = (refl, omega arith)
 
-only_later : (b : Bool) (n : ℕ) → cond {A = ℕ} b 1 0 + n ≤ 1 → 1 ≤ n → b ≡ false
+pub only_later : (b : Bool) (n : ℕ) → cond {A = ℕ} b 1 0 + n ≤ 1 → 1 ≤ n → b ≡ false
 only_later true n e f = absurd (omega arith)
 only_later false n e f = refl
 
@@ -71,6 +80,11 @@ pub any_false_at : {R : Type 0} (p : R → Bool) (rows : List R) (i : ℕ) (d : 
 any_false_at p [] i d e within = absurd (omega arith)
 any_false_at p (r ∷ rows) zero d e within = (or_false (p r) (list_any p rows) e).0
 any_false_at p (r ∷ rows) (suc i) d e within = any_false_at p rows i d (or_false (p r) (list_any p rows) e).1 (omega arith)
+
+pub any_at : {R : Type 0} (p : R → Bool) (rows : List R) (i : ℕ) (d : R) → i < length rows → p (get_or rows i d) ≡ true → list_any p rows ≡ true
+any_at p [] i d within e = absurd (omega arith)
+any_at p (r ∷ rows) zero d within e = ap (λ b. b || list_any p rows) e
+any_at p (r ∷ rows) (suc i) d within e = or_right (p r) _ (any_at p rows i d (omega arith) e)
 
 pub any_push : {R : Type 0} (p : R → Bool) (rows : List R) (r : R) → list_any p rows ≡ true → list_any p (rows ++ r ∷ []) ≡ true
 any_push p rows r e = list_any-append p rows (r ∷ []) ∙ ap (λ b. b || list_any p (r ∷ [])) e
@@ -97,6 +111,12 @@ got (x ∷ rows) zero r d e = (omega arith, cc)
 got (x ∷ rows) (suc i) r d e =
     let rest = got rows i r d e in
     (omega arith, rest.1)
+
+-- what a row at a place passes, some row passes
+pub some_row : {R : Type 0} (p : R → Bool) (rows : List R) (i : ℕ) (a : R) → slice_get rows i ≡ Some a → p a ≡ true → list_any p rows ≡ true
+some_row p rows i a at e =
+    let x = got rows i a a at in
+    any_at p rows i a x.0 (ap p x.1 ∙ e)
 
 pub within_same : {X : Type 0} (xs : List X) (i : ℕ) (d e : X) → i < length xs → get_or xs i d ≡ get_or xs i e
 within_same [] i d e within = absurd (omega arith)
@@ -134,7 +154,7 @@ first_by : (b : Bool) (any : Bool) (n m : ℕ) → (any ≡ true → n < m) → 
 first_by true any n m f e = omega arith
 first_by false any n m f e = omega (arith, f e)
 
-first_within : {R : Type 0} (p : R → Bool) (rows : List R) → list_any p rows ≡ true → position_or_len p rows < length rows
+pub first_within : {R : Type 0} (p : R → Bool) (rows : List R) → list_any p rows ≡ true → position_or_len p rows < length rows
 first_within p [] e = cc
 first_within p (r ∷ rows) e = first_by (p r) (list_any p rows) (position_or_len p rows) (length rows) (first_within p rows) e
 
@@ -147,11 +167,11 @@ has_position p rows e f = some_is_not_none _ _ (grind (arith, nat_tests, first_w
 
 -- ---- the one row that passes, taken out
 
-keep_by : {R : Type 0} (b : Bool) (r : R) (xs ys : List R) → b ≡ false → xs ≡ ys → cond (not b) (r ∷ xs) xs ≡ r ∷ ys
+pub keep_by : {R : Type 0} (b : Bool) (r : R) (xs ys : List R) → b ≡ false → xs ≡ ys → cond (not b) (r ∷ xs) xs ≡ r ∷ ys
 keep_by true r xs ys e f = cc
 keep_by false r xs ys e f = ap (λ l. r ∷ l) f
 
-drop_by : {R : Type 0} (b : Bool) (r : R) (xs ys : List R) → b ≡ true → xs ≡ ys → cond (not b) (r ∷ xs) xs ≡ ys
+pub drop_by : {R : Type 0} (b : Bool) (r : R) (xs ys : List R) → b ≡ true → xs ≡ ys → cond (not b) (r ∷ xs) xs ≡ ys
 drop_by true r xs ys e f = f
 drop_by false r xs ys e f = cc
 
@@ -301,6 +321,14 @@ rows_change q (x ∷ tables) zero (suc s) rows f e = e
 rows_change q (x ∷ tables) (suc t) zero rows f e = e
 rows_change q (x ∷ tables) (suc t) (suc s) rows f e = rows_change q tables t s rows f e
 
+-- the same where only a test of that very table matters
+pub rows_change_where : {R : Type 0} (q : R → Bool) (tables : List (List R)) (t s : ℕ) (rows : List R) → (s ≡ t → list_any q (get_or tables t []) ≡ true → list_any q rows ≡ true) → list_any q (get_or tables s []) ≡ true → list_any q (get_or (set tables t rows) s []) ≡ true
+rows_change_where q [] t s rows f e = e
+rows_change_where q (x ∷ tables) zero zero rows f e = f refl e
+rows_change_where q (x ∷ tables) zero (suc s) rows f e = e
+rows_change_where q (x ∷ tables) (suc t) zero rows f e = e
+rows_change_where q (x ∷ tables) (suc t) (suc s) rows f e = rows_change_where q tables t s rows (λ same. f (ap (λ n. suc n) same)) e
+
 pub rows_missing : {R : Type 0} (tables : List (List R)) (t : ℕ) → slice_get tables t ≡ None → get_or tables t [] ≡ []
 rows_missing [] t e = refl
 rows_missing (rows ∷ tables) zero e = cc
@@ -339,10 +367,6 @@ nowhere_here q [] t e = refl
 nowhere_here {R} q (x ∷ tables) zero e = (or_false (list_any q x) (list_any (λ (rows : List R). list_any q rows) tables) e).0
 nowhere_here {R} q (x ∷ tables) (suc t) e = nowhere_here q tables t (or_false (list_any q x) (list_any (λ (rows : List R). list_any q rows) tables) e).1
 
-any_or : (a b : Bool) → b ≡ true → (a || b) ≡ true
-any_or true b e = refl
-any_or false b e = e
-
 or_left : (a b : Bool) → a ≡ true → (a || b) ≡ true
 or_left true b e = refl
 or_left false b e = cc
@@ -351,7 +375,7 @@ or_left false b e = cc
 pub somewhere : {R : Type 0} (p : R → Bool) (tables : List (List R)) (t : ℕ) → list_any p (get_or tables t []) ≡ true → list_any (λ rows. list_any p rows) tables ≡ true
 somewhere p [] t e = e
 somewhere p (rows ∷ tables) zero e = or_left _ _ e
-somewhere p (rows ∷ tables) (suc t) e = any_or _ _ (somewhere p tables t e)
+somewhere p (rows ∷ tables) (suc t) e = or_right _ _ (somewhere p tables t e)
 
 -- a test that counts none is passed nowhere
 pub counted_nowhere : {R : Type 0} (p : R → Bool) (tables : List (List R)) → sum_by (λ rows. count_by p rows) tables ≡ 0 → list_any (λ rows. list_any p rows) tables ≡ false
@@ -365,3 +389,8 @@ pub gone : {R : Type 0} (p : R → Bool) (tables : List (List R)) (t : ℕ) → 
 gone {R} p tables t within once there =
     let left = count_none p (filter (λ r. not (p r)) (get_or tables t [])) (none_left p (get_or tables t [])) in
     counted_nowhere p (set tables t (filter (λ r. not (p r)) (get_or tables t []))) (omega (arith, sum_by-set (λ (rows : List R). count_by p rows) tables t (filter (λ r. not (p r)) (get_or tables t [])) [] within, one_at_least p (get_or tables t []) there))
+
+pub none_at : {X : Type 0} (xs : List X) (i : ℕ) (d : X) → slice_get xs i ≡ None → get_or xs i d ≡ d
+none_at [] i d e = refl
+none_at (x ∷ xs) zero d e = cc
+none_at (x ∷ xs) (suc i) d e = none_at xs i d e

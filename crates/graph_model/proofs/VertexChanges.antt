@@ -11,12 +11,13 @@ use Rattle.graph_schema.specs.declared.schema.EdgeTable.{EdgeTable}
 use Rattle.graph_model.specs.declared.row.VertexRow.{VertexRow}
 use Rattle.graph_model.specs.declared.row.EdgeRow.{EdgeRow}
 use Rattle.graph_model.specs.declared.change.Change.TheVariants.{InsertVertex, DeleteVertex, SetVertex}
-use Rattle.graph_model.specs.Keys.{rows_at, without_key, change_at_key}
-use Rattle.graph_model.specs.Graph.{GraphData, IsGraph, AreValues, AreVertices, AreEdges, IsEdge, vertex_props_at, vertex_table_props, vertex_key, vertex_values, has_vertex, has_vertex_in, is_end, is_end_in, kinds_fit, vertex_total, cell_total, most_vertices, most_cells}
+use Rattle.graph_model.specs.Keys.{rows_at, is_taken, without_key, change_at_key}
+use Rattle.graph_model.specs.Graph.{GraphData, IsGraph, AreValues, AreVertices, AreEdges, IsEdge, vertex_props_at, vertex_table_props, vertex_key, vertex_values, has_vertex_in, ends_at, is_end, is_end_in, kinds_fit, vertex_total, cell_total, most_vertices, most_cells}
 use Rattle.graph_model.specs.Change.{misfit, changed, kind_fits_at, with_vertex_value}
-use Rattle.graph_model.proofs.Rows.{or_false, not_false, any_push, any_filter, any_map, any_false_at, rows_change, count_once, total_push, sum_push}
+use Rattle.graph_model.proofs.Rows.{or_false, and_false, not_false, any_push, any_filter, any_map, any_false_at, rows_change, rows_change_where, total_push, sum_push}
 use Rattle.graph_model.proofs.Zips.{no_cause, AllZip-set, AllZip-weaker, AllZip-length, AllZip_where}
-use Rattle.graph_model.proofs.Totals.{keys_without, rows_without, values_without, keys_changed, rows_changed, values_changed}
+use Rattle.graph_model.proofs.Totals.{rows_without, values_without, counts_without, rows_changed, values_changed, counts_changed}
+use Rattle.graph_model.proofs.Distinct.{distinct_push, distinct_less}
 
 -- ---- insert
 
@@ -25,7 +26,7 @@ pub record FitsVertex (g : GraphData) (t : ℕ) (k : ℤ) (vs : List Value) : Ty
   pub table : t < length g.schema.vertices
   pub count : length vs ≡ length (vertex_props_at g.schema t)
   pub kinds : kinds_fit (vertex_props_at g.schema t) vs ≡ true
-  pub key : has_vertex k g.vertices ≡ false
+  pub key : is_taken g.schema.keys vertex_key k g.vertices t ≡ false
   pub room : vertex_total g + 1 ≤ most_vertices
   pub cells : cell_total g + length vs ≤ most_cells
 
@@ -35,7 +36,7 @@ fits_vertex g t k vs e =
     let a = no_cause (not (nat_lt t (length g.schema.vertices))) _ _ e in
     let b = no_cause (not (length vs == length props)) _ _ a.1 in
     let c = no_cause (not (kinds_fit props vs)) _ _ b.1 in
-    let d = no_cause (has_vertex k g.vertices) _ _ c.1 in
+    let d = no_cause (is_taken g.schema.keys vertex_key k g.vertices t) _ _ c.1 in
     let l = no_cause (nat_lt most_vertices (vertex_total g + 1) || nat_lt most_cells (cell_total g + length vs)) _ _ d.1 in
     record {
       table = grind (arith, nat_tests, a.0);
@@ -70,7 +71,7 @@ insert_keeps g t k vs is fits =
       edges = AllZip-weaker _ _ g.schema.edges g.edges
           (λ x rows old. All-weaker (IsEdge g.vertices x) _ (λ r edge. edge_stays g.vertices t row x r edge) rows old)
           is.edges;
-      vertex_keys = λ q. count_once (λ r. int_eq r.key q) g.vertices t row within (is.vertex_keys q) (λ e. subst (λ z. has_vertex z g.vertices ≡ false) ((Decides-int_eq k q).0 e) fits.key);
+      vertex_keys = distinct_push g.schema.keys vertex_key g.vertices t row within is.vertex_keys fits.key;
       edge_keys = is.edge_keys;
       few_vertices = omega (arith, total_push g.vertices t row within, fits.room);
       few_edges = is.few_edges;
@@ -83,25 +84,35 @@ insert_keeps g t k vs is fits =
 pub record FitsDelete (g : GraphData) (t : ℕ) (k : ℤ) : Type 0 where
   pub table : t < length g.schema.vertices
   pub key : has_vertex_in k (rows_at g.vertices t) ≡ true
-  pub free : is_end k g.edges ≡ false
+  pub free : is_end g.schema t k g.edges ≡ false
 
 pub fits_delete : (g : GraphData) (t : ℕ) (k : ℤ) → misfit g (DeleteVertex t k) ≡ None → FitsDelete g t k
 fits_delete g t k e =
     let a = no_cause (not (nat_lt t (length g.schema.vertices))) _ _ e in
     let b = no_cause (not (has_vertex_in k (rows_at g.vertices t))) _ _ a.1 in
-    let c = no_cause (is_end k g.edges) _ _ b.1 in
+    let c = no_cause (is_end g.schema t k g.edges) _ _ b.1 in
     record { table = grind (arith, nat_tests, a.0); key = not_false _ b.0; free = c.0 }
 
 kept_row : (k s : ℤ) (r : VertexRow) → int_eq s k ≡ false → int_eq r.key s ≡ true → not (int_eq r.key k) ≡ true
 kept_row k s r apart same = ap (λ b. not b) (ap (λ x. int_eq x k) ((Decides-int_eq r.key s).0 same) ∙ apart)
 
-edge_kept : (g : GraphData) (t : ℕ) (k : ℤ) (x : EdgeTable) (r : EdgeRow) → (int_eq r.source k || int_eq r.destination k) ≡ false → IsEdge g.vertices x r → IsEdge (set g.vertices t (without_key vertex_key k (rows_at g.vertices t))) x r
+-- the test of an end that fails, where the edge's end table is that of the vertex
+end_apart : (s t : ℕ) (k e : ℤ) → (s == t && int_eq e k) ≡ false → s ≡ t → int_eq e k ≡ false
+end_apart s t k e apart same = and_false (s == t) (int_eq e k) apart (grind (arith, nat_tests, same))
+
+end_kept : (g : GraphData) (t : ℕ) (k : ℤ) (s : ℕ) (e : ℤ) → (s == t && int_eq e k) ≡ false → has_vertex_in e (rows_at g.vertices s) ≡ true → has_vertex_in e (rows_at (set g.vertices t (without_key vertex_key k (rows_at g.vertices t))) s) ≡ true
+end_kept g t k s e apart there =
+    rows_change_where (λ v. int_eq v.key e) g.vertices t s _
+    (λ same. any_filter (λ v. int_eq v.key e) (λ v. not (int_eq v.key k)) (rows_at g.vertices t) (λ v h. kept_row k e v (end_apart s t k e apart same) h))
+    there
+
+edge_kept : (g : GraphData) (t : ℕ) (k : ℤ) (x : EdgeTable) (r : EdgeRow) → ends_at t k x r ≡ false → IsEdge g.vertices x r → IsEdge (set g.vertices t (without_key vertex_key k (rows_at g.vertices t))) x r
 edge_kept g t k x r apart edge =
-    let parts = or_false (int_eq r.source k) (int_eq r.destination k) apart in
+    let parts = or_false (x.source == t && int_eq r.source k) (x.destination == t && int_eq r.destination k) apart in
     record {
       values = edge.values;
-      source = rows_change (λ v. int_eq v.key r.source) g.vertices t x.source _ (any_filter (λ v. int_eq v.key r.source) (λ v. not (int_eq v.key k)) (rows_at g.vertices t) (λ v e. kept_row k r.source v parts.0 e)) edge.source;
-      destination = rows_change (λ v. int_eq v.key r.destination) g.vertices t x.destination _ (any_filter (λ v. int_eq v.key r.destination) (λ v. not (int_eq v.key k)) (rows_at g.vertices t) (λ v e. kept_row k r.destination v parts.1 e)) edge.destination;
+      source = end_kept g t k x.source r.source parts.0 edge.source;
+      destination = end_kept g t k x.destination r.destination parts.1 edge.destination;
     }
 
 pub delete_keeps : (g : GraphData) (t : ℕ) (k : ℤ) → IsGraph g → FitsDelete g t k → IsGraph (changed g (DeleteVertex t k))
@@ -112,10 +123,10 @@ delete_keeps g t k is fits =
       schema = is.schema;
       vertices = AllZip-set AreVertices g.schema.vertices g.vertices t _ [] is.vertices
           (λ x at rows. All-filter (λ r. not (int_eq r.key k)) (λ r. AreValues x.props r.values) _ rows);
-      edges = AllZip_where (AreEdges g.vertices) _ (is_end_in k) g.schema.edges g.edges fits.free
+      edges = AllZip_where (AreEdges g.vertices) _ (λ p. is_end_in t k p.0 p.1) g.schema.edges g.edges fits.free
           (λ x rows apart old i d h. edge_kept g t k x (get_or rows i d) (any_false_at _ rows i d apart h) (old i d h))
           is.edges;
-      vertex_keys = λ q. omega (arith, keys_without vertex_key vertex_values g.vertices t k within q, is.vertex_keys q);
+      vertex_keys = distinct_less g.schema.keys vertex_key g.vertices t _ within is.vertex_keys (counts_without vertex_key k (rows_at g.vertices t));
       edge_keys = is.edge_keys;
       few_vertices = omega (arith, rows_without vertex_key vertex_values g.vertices t k within, is.few_vertices);
       few_edges = is.few_edges;
@@ -196,7 +207,7 @@ set_keeps g t k p v is fits =
           All-map (λ r. AreValues x.props r.values) (λ r. cond (int_eq r.key k) (with_vertex_value p v r) r) (rows_at g.vertices t) (λ i d h. values_stay x.props p v (get_or (rows_at g.vertices t) i d) _ kind (rows i d h)));
       edges = AllZip-weaker (AreEdges g.vertices) _ g.schema.edges g.edges
           (λ x rows old i d h. edge_holds g t k p v x (get_or rows i d) (old i d h)) is.edges;
-      vertex_keys = λ q. omega (arith, is.vertex_keys q, keys_changed vertex_key vertex_values g.vertices t k within set_one (λ z r. key_stays p v z r (int_eq r.key k)) q);
+      vertex_keys = distinct_less g.schema.keys vertex_key g.vertices t _ within is.vertex_keys (counts_changed vertex_key k set_one (rows_at g.vertices t) (λ z r. key_stays p v z r (int_eq r.key k)));
       edge_keys = is.edge_keys;
       few_vertices = omega (arith, rows_changed vertex_key vertex_values g.vertices t k within set_one, is.few_vertices);
       few_edges = is.few_edges;

@@ -1,6 +1,6 @@
 -- Two lists side by side, and chains of causes.
 use Rattle.std.proofs.Common.{◌≡◌, ℕ, zero, suc, Bool, true, false, List, [], ◌∷◌, Option, Some, None, length, get_or, set, slice_get, replicate, if◌then◌else◌, refl, ap}
-use Rattle.std.specs.List.{AllZip, list_any}
+use Rattle.std.specs.List.{AllZip, list_any, zip}
 use Rattle.graph_model.proofs.Rows.{or_false}
 
 -- a chain of causes that gives none tells that no test held
@@ -20,13 +20,13 @@ AllZip-set R (x ∷ xs) [] i y d h f = absurd h
 AllZip-set R (x ∷ xs) (z ∷ ys) zero y d h f = (f x refl h.0, h.1)
 AllZip-set R (x ∷ xs) (z ∷ ys) (suc i) y d h f = (h.0, AllZip-set R xs ys i y d h.1 f)
 
--- the relation becomes another one where no item passes a test
-pub AllZip_where : {A B : Type 0} (R S : A → B → Type 0) (p : B → Bool) (xs : List A) (ys : List B) → list_any p ys ≡ false → ((x : A) (y : B) → p y ≡ false → R x y → S x y) → AllZip R xs ys → AllZip S xs ys
+-- the relation becomes another one where no pair passes a test
+pub AllZip_where : {A B : Type 0} (R S : A → B → Type 0) (p : A × B → Bool) (xs : List A) (ys : List B) → list_any p (zip xs ys) ≡ false → ((x : A) (y : B) → p (x, y) ≡ false → R x y → S x y) → AllZip R xs ys → AllZip S xs ys
 AllZip_where R S p [] [] e f h = h
 AllZip_where R S p [] (y ∷ ys) e f h = absurd h
 AllZip_where R S p (x ∷ xs) [] e f h = absurd h
 AllZip_where R S p (x ∷ xs) (y ∷ ys) e f h =
-    let parts = or_false (p y) (list_any p ys) e in
+    let parts = or_false (p (x, y)) (list_any p (zip xs ys)) e in
     (f x y parts.0 h.0, AllZip_where R S p xs ys parts.1 f h.1)
 
 pub AllZip-weaker : {A B : Type 0} (R S : A → B → Type 0) (xs : List A) (ys : List B) → ((x : A) (y : B) → R x y → S x y) → AllZip R xs ys → AllZip S xs ys

@@ -11,8 +11,8 @@ use Rattle.graph_model.specs.declared.change.Why.{Why}
 use Rattle.graph_model.specs.declared.change.Why.TheVariants.{Table, Count, Prop as NoProp, Kind, KeyTaken, KeyMissing, EndMissing, HasEdges, Limit}
 use Rattle.graph_model.specs.declared.change.ApplyFault.{ApplyFault}
 use Rattle.graph_model.specs.declared.change.ApplyFault.TheVariants.{Misfit, NoMemory}
-use Rattle.graph_model.specs.Keys.{rows_at, without_key, change_at_key}
-use Rattle.graph_model.specs.Graph.{GraphData, vertex_props_at, edge_props_at, source_at, destination_at, vertex_key, edge_key, has_vertex_in, has_edge_in, has_vertex, has_edge, is_end, kinds_fit, vertex_total, edge_total, cell_total, most_vertices, most_edges, most_cells}
+use Rattle.graph_model.specs.Keys.{rows_at, is_taken, without_key, change_at_key}
+use Rattle.graph_model.specs.Graph.{GraphData, vertex_props_at, edge_props_at, source_at, destination_at, vertex_key, edge_key, has_vertex_in, has_edge_in, is_end, kinds_fit, vertex_total, edge_total, cell_total, most_vertices, most_edges, most_cells}
 
 -- ---- whether a change fits
 
@@ -30,19 +30,19 @@ misfit g (InsertVertex t k vs) =
     if not (nat_lt t (length g.schema.vertices)) then Some Table
     else if not (length vs == length (vertex_props_at g.schema t)) then Some Count
     else if not (kinds_fit (vertex_props_at g.schema t) vs) then Some Kind
-    else if has_vertex k g.vertices then Some KeyTaken
+    else if is_taken g.schema.keys vertex_key k g.vertices t then Some KeyTaken
     else if nat_lt most_vertices (vertex_total g + 1) || nat_lt most_cells (cell_total g + length vs) then Some Limit
     else None
 misfit g (DeleteVertex t k) =
     if not (nat_lt t (length g.schema.vertices)) then Some Table
     else if not (has_vertex_in k (rows_at g.vertices t)) then Some KeyMissing
-    else if is_end k g.edges then Some HasEdges
+    else if is_end g.schema t k g.edges then Some HasEdges
     else None
 misfit g (InsertEdge t k s d vs) =
     if not (nat_lt t (length g.schema.edges)) then Some Table
     else if not (length vs == length (edge_props_at g.schema t)) then Some Count
     else if not (kinds_fit (edge_props_at g.schema t) vs) then Some Kind
-    else if has_edge k g.edges then Some KeyTaken
+    else if is_taken g.schema.keys edge_key k g.edges t then Some KeyTaken
     else if not (has_vertex_in s (rows_at g.vertices (source_at g.schema t))) || not (has_vertex_in d (rows_at g.vertices (destination_at g.schema t))) then Some EndMissing
     else if nat_lt most_edges (edge_total g + 1) || nat_lt most_cells (cell_total g + length vs) then Some Limit
     else None

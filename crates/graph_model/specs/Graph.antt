@@ -1,5 +1,5 @@
 -- What a graph is.
-use Rattle.std.specs.Prelude.{◌≡◌, ℕ, ◌+◌, ◌≤◌, ℤ, Bool, ◌||◌, List, [], length, All, IsTrue, Option, Some, None, slice_get, replicate}
+use Rattle.std.specs.Prelude.{◌≡◌, ℕ, ◌+◌, ◌≤◌, ℤ, Bool, ◌&&◌, ◌||◌, ◌==◌, List, [], length, All, IsTrue, Option, Some, None, slice_get, replicate}
 use Rattle.std.specs.List.{AllZip, list_any, list_all, zip}
 use Rattle.std.specs.Ordering.{int_eq}
 use Rattle.column_types.specs.declared.value.Value.{Value}
@@ -10,7 +10,7 @@ use Rattle.graph_schema.specs.declared.schema.EdgeTable.{EdgeTable}
 use Rattle.graph_schema.specs.Schema.{SchemaData, IsSchema}
 use Rattle.graph_model.specs.declared.row.VertexRow.{VertexRow}
 use Rattle.graph_model.specs.declared.row.EdgeRow.{EdgeRow}
-use Rattle.graph_model.specs.Keys.{rows_at, has_key_in, has_key, key_count, row_total, value_total}
+use Rattle.graph_model.specs.Keys.{rows_at, has_key_in, has_key, AreDistinct, row_total, value_total}
 
 -- a schema, for each vertex table its rows, and for each edge table its rows
 pub record GraphData : Type 0 where
@@ -78,13 +78,17 @@ has_vertex k tables = has_key vertex_key k tables
 abbrev pub has_edge : ℤ → List (List EdgeRow) → Bool
 has_edge k tables = has_key edge_key k tables
 
--- some edge of a table starts or ends at the vertex of the key
-abbrev pub is_end_in : ℤ → List EdgeRow → Bool
-is_end_in k rows = list_any (λ r. int_eq r.source k || int_eq r.destination k) rows
+-- an edge of an edge table starts or ends at the vertex of the key in vertex table t
+abbrev pub ends_at : ℕ → ℤ → EdgeTable → EdgeRow → Bool
+ends_at t k table r = (table.source == t && int_eq r.source k) || (table.destination == t && int_eq r.destination k)
 
--- some edge of some table does
-abbrev pub is_end : ℤ → List (List EdgeRow) → Bool
-is_end k tables = list_any (is_end_in k) tables
+-- some edge of the edge table does
+abbrev pub is_end_in : ℕ → ℤ → EdgeTable → List EdgeRow → Bool
+is_end_in t k table rows = list_any (ends_at t k table) rows
+
+-- some edge of some edge table does
+abbrev pub is_end : SchemaData → ℕ → ℤ → List (List EdgeRow) → Bool
+is_end s t k tables = list_any (λ p. is_end_in t k p.0 p.1) (zip s.edges tables)
 
 -- each value is NULL or of its property's kind
 abbrev pub kinds_fit : List Prop → List Value → Bool
@@ -130,14 +134,14 @@ most_edges = 4194304
 abbrev pub most_cells : ℕ
 most_cells = 16777216
 
--- what every graph keeps: a schema, rows that fit its tables, keys that differ over all vertices and over all edges, and
--- the limits
+-- what every graph keeps: a schema, rows that fit its tables, keys that differ as the schema says among vertices and among
+-- edges, and the limits
 pub record IsGraph (g : GraphData) : Type 0 where
   pub schema : IsSchema g.schema
   pub vertices : AllZip AreVertices g.schema.vertices g.vertices
   pub edges : AllZip (AreEdges g.vertices) g.schema.edges g.edges
-  pub vertex_keys : (k : ℤ) → key_count vertex_key k g.vertices ≤ 1
-  pub edge_keys : (k : ℤ) → key_count edge_key k g.edges ≤ 1
+  pub vertex_keys : AreDistinct g.schema.keys vertex_key g.vertices
+  pub edge_keys : AreDistinct g.schema.keys edge_key g.edges
   pub few_vertices : vertex_total g ≤ most_vertices
   pub few_edges : edge_total g ≤ most_edges
   pub few_cells : cell_total g ≤ most_cells

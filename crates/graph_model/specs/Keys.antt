@@ -1,8 +1,10 @@
 -- Rows with keys, in lists of tables. `key` gives a row's key, `values` its values.
-use Rattle.std.specs.Prelude.{ℕ, ℤ, Bool, not, filter, map, if◌then◌else◌, List, [], length, slice_index_or, count_by, sum_by}
+use Rattle.std.specs.Prelude.{ℕ, ◌≤◌, ℤ, Bool, not, filter, map, if◌then◌else◌, List, [], length, slice_index_or, count_by, sum_by}
 use Rattle.std.specs.List.{list_any}
 use Rattle.std.specs.Ordering.{int_eq}
 use Rattle.column_types.specs.declared.value.Value.{Value}
+use Rattle.graph_schema.specs.declared.schema.Keys.{Keys}
+use Rattle.graph_schema.specs.declared.schema.Keys.TheVariants.{Whole, PerTable}
 
 -- the rows of a table, none where there is no such table
 abbrev pub rows_at : {R : Type 0} → List (List R) → ℕ → List R
@@ -23,6 +25,16 @@ count_in key k rows = count_by (λ r. int_eq (key r) k) rows
 -- how many rows of all tables have the key
 abbrev pub key_count : {R : Type 0} → (R → ℤ) → ℤ → List (List R) → ℕ
 key_count key k tables = sum_by (count_in key k) tables
+
+-- a key that no new row of table t can have: under Whole a row of some table has it, under PerTable a row of table t
+abbrev pub is_taken : {R : Type 0} → Keys → (R → ℤ) → ℤ → List (List R) → ℕ → Bool
+is_taken Whole key k tables t = has_key key k tables
+is_taken PerTable key k tables t = has_key_in key k (rows_at tables t)
+
+-- keys differ: under Whole over the rows of all tables, under PerTable over the rows of each table
+abbrev pub AreDistinct : {R : Type 0} → Keys → (R → ℤ) → List (List R) → Type 0
+AreDistinct Whole key tables = (k : ℤ) → key_count key k tables ≤ 1
+AreDistinct PerTable key tables = (k : ℤ) (t : ℕ) → count_in key k (rows_at tables t) ≤ 1
 
 -- a table's rows without the one of the key
 abbrev pub without_key : {R : Type 0} → (R → ℤ) → ℤ → List R → List R

@@ -5,6 +5,13 @@ pub use Rattle.graph_schema.specs.Schema
 pub use Rattle.graph_schema.specs.Law
 pub use Rattle.graph_schema.specs.Answer
 pub mod Keys
-pub mod Index
+pub mod Seats
 pub mod Graph
 pub mod Change
+pub mod Stored
+pub mod Counts
+pub mod Columns
+pub mod Parts
+pub mod FromRows
+pub mod IntoColumns
+pub mod KeysAndEnds

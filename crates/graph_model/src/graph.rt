@@ -1,12 +1,22 @@
 //! Graphs.
-ghost use Rattle.std.specs.Prelude.{◌≡◌, ◌+◌, ◌<◌, ◌||◌, not, nat_lt, length, slice_get, if◌then◌else◌, Some, None, IfOk, OnOk, OnErr};
+ghost use Rattle.std.specs.Prelude.{◌≡◌, ◌+◌, ◌<◌, ◌≤◌, ◌||◌, not, nat_lt, length, slice_get, if◌then◌else◌, Some, None, IsTrue, IfOk, OnOk, OnErr};
 ghost use Rattle.std.specs.Option.{option_copied};
-ghost use Rattle.graph_model.specs.Keys.{rows_at};
-ghost use Rattle.graph_model.specs.Graph.{IsGraph, has_edge, has_vertex_in, is_end, is_end_in, kinds_fit, vertex_total, edge_total, cell_total, most_edges, most_cells, source_at, destination_at};
+ghost use Rattle.graph_model.specs.Keys.{rows_at, is_taken as key_is_taken};
+ghost use Rattle.graph_model.specs.Graph.{IsGraph, has_vertex_in, has_edge_in, vertex_key, edge_key, is_end as key_is_end, kinds_fit, vertex_total, edge_total, cell_total, most_vertices, most_edges, most_cells, source_at, destination_at};
 ghost use Rattle.graph_model.specs.declared.change.Why.TheVariants.{KeyTaken, EndMissing, Limit};
 ghost use Rattle.graph_model.specs.Change.{misfit, changed, Applies};
+ghost use Rattle.graph_model.specs.IntoColumns.{AreColumnsOf};
 
-use crate::tables::Tables;
+use crate::columns::{GraphColumns, columns_of};
+use crate::copies::{copy_edges, copy_vertices};
+use crate::counts::{count_ends, count_of, forget_ends, grow_for, no_counts};
+use crate::ends::{Ends, destination_of, ends_in_seat, ends_of, no_ends, put_ends_in, source_of};
+use crate::from_rows::{copy_edge_tables, copy_vertex_tables, put_edge_tables, put_vertex_tables};
+use crate::table::Table;
+use crate::tables::{
+    count_cells, count_rows, edge_tables, has_key, is_taken, push_row, remove_row, seat_count,
+    seat_of, set_value, vertex_tables,
+};
 use crate::{ApplyFault, Change, EdgeRow, EdgeTable, Prop, Schema, VertexRow, Why};
 use column_types::{List, NoMemory, Value, copy_value};
 use std::alloc::Global;
@@ -21,22 +31,27 @@ const MOST_EDGES: u32 = 4_194_304;
 /// The most property cells of a graph, over vertices and edges.
 const MOST_CELLS: u32 = 16_777_216;
 
-/// For each table its rows in order. What every graph keeps is `IsGraph`.
-#[derive(Debug, Drop)]
+/// A schema with the rows of its tables, held in columns, for each edge the seats of its ends, and for each seat of a vertex
+/// table how many ends stand there. Seen as the schema and the lists of rows. What every graph keeps is `IsGraph`.
+#[derive(Drop)]
 pub struct Graph {
     schema: Schema,
-    vertices: Tables<VertexRow>,
-    edges: Tables<EdgeRow>,
+    vertices: List<Table>,
+    edges: List<Table>,
+    ends: List<List<Ends>>,
+    counts: List<List<u32>>,
 }
 
 impl Model for Graph {
-    ghost use Rattle.graph_model.specs.Graph.{GraphData, IsGraph};
+    ghost use Rattle.graph_model.specs.Graph.{GraphData};
+    ghost use Rattle.graph_model.specs.Stored.{stored_graph};
+    ghost use Rattle.graph_model.specs.Counts.{IsKept};
 
     ghost Value = { GraphData };
 
-    ghost view = { λ g. record { schema = g.schema; vertices = g.vertices; edges = g.edges } };
+    ghost view = { λ g. stored_graph g.schema g.vertices g.edges g.ends };
 
-    ghost invariant = { λ g. IsGraph (record { schema = g.schema; vertices = g.vertices; edges = g.edges }) };
+    ghost invariant = { λ g. IsKept g.schema g.vertices g.edges g.ends g.counts };
 }
 
 /// Whether each value is NULL or of its property's kind.
@@ -60,21 +75,6 @@ fn copy_values(alloc: Global, values: &List<Value>) -> Result<List<Value>, NoMem
     Ok(copy)
 }
 
-fn row_ends_at(rows: &List<EdgeRow>, key: i64) -> bool
-    ensures { result ≡ is_end_in key rows.now }
-{
-    rows.as_slice()
-        .iter()
-        .any(|row| row.source == key || row.destination == key)
-}
-
-/// Whether an edge starts or ends at the vertex of the key.
-fn edge_ends_at(tables: &[List<EdgeRow>], key: i64) -> bool
-    ensures { result ≡ is_end key tables.now }
-{
-    tables.iter().any(|rows| row_ends_at(rows, key))
-}
-
 impl Graph {
     ghost use Rattle.graph_model.specs.Graph.{empty_graph};
 
@@ -82,31 +82,16 @@ impl Graph {
     pub fn empty(alloc: Global, schema: Schema) -> Result<Graph, NoMemory>
         ensures { IfOk result (λ g. g ≡ empty_graph schema) }
     {
-        let vertices = Tables::empty(alloc, schema.vertices().len())?;
-        let edges = Tables::empty(alloc, schema.edges().len())?;
+        let vertices = vertex_tables(alloc, schema.vertices())?;
+        let edges = edge_tables(alloc, schema.edges())?;
+        let ends = no_ends(alloc, edges.len())?;
+        let counts = no_counts(alloc, vertices.len())?;
         Ok(Graph {
             schema,
             vertices,
             edges,
-        })
-    }
-
-    /// The graph of a schema with these rows, for each vertex table and for each edge table.
-    pub fn from_tables(
-        alloc: Global,
-        schema: Schema,
-        vertices: List<List<VertexRow>>,
-        edges: List<List<EdgeRow>>,
-    ) -> Result<Graph, NoMemory>
-        requires { IsGraph (record { schema = schema; vertices = vertices; edges = edges }) }
-        ensures { IfOk result (λ g. g ≡ record { schema = schema; vertices = vertices; edges = edges }) }
-    {
-        let vertices = Tables::from_rows(alloc, vertices)?;
-        let edges = Tables::from_rows(alloc, edges)?;
-        Ok(Graph {
-            schema,
-            vertices,
-            edges,
+            ends,
+            counts,
         })
     }
 
@@ -117,38 +102,55 @@ impl Graph {
         &self.schema
     }
 
-    /// The rows of a vertex table in order, none where there is no such table.
-    pub fn vertex_rows(&self, table: u32) -> &[VertexRow]
-        ensures { result.now ≡ rows_at self.now.vertices table }
+    /// A copy of the rows of a vertex table in order, none where there is no such table.
+    pub fn vertex_rows(&self, alloc: Global, table: u32) -> Result<List<VertexRow>, NoMemory>
+        ensures { IfOk result (λ rows. rows ≡ rows_at self.now.vertices table) }
     {
-        match self.vertices.as_slice().get(table as usize) {
-            Some(rows) => rows.as_slice(),
-            None => &[],
+        match self.vertices.get(table as usize) {
+            Some(there) => copy_vertices(alloc, there),
+            None => Ok(List::new(alloc)),
         }
     }
 
-    /// The rows of an edge table in order, none where there is no such table.
-    pub fn edge_rows(&self, table: u32) -> &[EdgeRow]
-        ensures { result.now ≡ rows_at self.now.edges table }
+    /// A copy of the rows of an edge table in order, none where there is no such table.
+    pub fn edge_rows(&self, alloc: Global, table: u32) -> Result<List<EdgeRow>, NoMemory>
+        ensures { IfOk result (λ rows. rows ≡ rows_at self.now.edges table) }
     {
-        match self.edges.as_slice().get(table as usize) {
-            Some(rows) => rows.as_slice(),
-            None => &[],
-        }
+        let Some(shape) = self.schema.edges().get(table as usize) else {
+            return Ok(List::new(alloc));
+        };
+        let vertices = self.vertices.as_slice();
+        copy_edges(
+            alloc,
+            &self.edges.as_slice()[table as usize],
+            self.ends.as_slice()[table as usize].as_slice(),
+            &vertices[shape.source as usize],
+            &vertices[shape.destination as usize],
+        )
     }
 
     /// How many vertices all tables have.
     pub fn vertex_count(&self) -> u32
-        ensures { result ≡ vertex_total self.now }
+        ensures total { result ≡ vertex_total self.now }
+        ensures few { result ≤ most_vertices }
     {
-        self.vertices.row_count()
+        count_rows(self.vertices.as_slice())
     }
 
     /// How many edges all tables have.
     pub fn edge_count(&self) -> u32
-        ensures { result ≡ edge_total self.now }
+        ensures total { result ≡ edge_total self.now }
+        ensures few { result ≤ most_edges }
     {
-        self.edges.row_count()
+        count_rows(self.edges.as_slice())
+    }
+
+    /// How many values they have.
+    fn cell_count(&self) -> u32
+        ensures total { result ≡ cell_total self.now }
+        ensures few { result ≤ most_cells }
+    {
+        count_cells(self.vertices.as_slice()) + count_cells(self.edges.as_slice())
     }
 
     /// Tells a proof what every graph keeps.
@@ -201,7 +203,7 @@ impl Graph {
             Change::InsertVertex { table, key, values } => {
                 self.add_vertex(*table, *key, copy_values(alloc, values)?)?;
             }
-            Change::DeleteVertex { table, key } => self.drop_vertex(*table, *key),
+            Change::DeleteVertex { table, key } => self.drop_vertex(*table, *key)?,
             Change::InsertEdge {
                 table,
                 key,
@@ -212,7 +214,7 @@ impl Graph {
                 let values = copy_values(alloc, values)?;
                 self.add_edge(*table, *key, *source, *destination, values)?;
             }
-            Change::DeleteEdge { table, key } => self.drop_edge(*table, *key),
+            Change::DeleteEdge { table, key } => self.drop_edge(*table, *key)?,
             Change::SetVertex {
                 table,
                 key,
@@ -220,7 +222,7 @@ impl Graph {
                 value,
             } => {
                 let value = copy_value(alloc, value.cell())?;
-                self.put_vertex_value(*table, *key, *prop, value);
+                self.put_vertex_value(*table, *key, *prop, value)?;
             }
             Change::SetEdge {
                 table,
@@ -229,18 +231,96 @@ impl Graph {
                 value,
             } => {
                 let value = copy_value(alloc, value.cell())?;
-                self.put_edge_value(*table, *key, *prop, value);
+                self.put_edge_value(*table, *key, *prop, value)?;
             }
         }
         Ok(())
+    }
+
+    /// The graph of a schema with these rows, for each vertex table and for each edge table.
+    pub fn from_tables(
+        alloc: Global,
+        schema: Schema,
+        vertices: List<List<VertexRow>>,
+        edges: List<List<EdgeRow>>,
+    ) -> Result<Graph, NoMemory>
+        requires { IsGraph (record { schema = schema; vertices = vertices; edges = edges }) }
+        ensures { IfOk result (λ g. g ≡ record { schema = schema; vertices = vertices; edges = edges }) }
+    {
+        let mut graph = Graph::empty(alloc, schema)?;
+        put_vertex_tables(&mut graph, vertices)?;
+        put_edge_tables(&mut graph, edges)?;
+        Ok(graph)
+    }
+
+    /// An equal graph.
+    pub fn copy(&self, alloc: Global) -> Result<Graph, NoMemory>
+        ensures { IfOk result (λ g. g ≡ self.now) }
+    {
+        self.sound();
+        let schema = self.schema().clone()?;
+        let vertices = copy_vertex_tables(alloc, self)?;
+        let edges = copy_edge_tables(alloc, self)?;
+        Graph::from_tables(alloc, schema, vertices, edges)
+    }
+
+    /// The columns of the graph. Nothing is copied where no row was ever taken out.
+    pub fn into_columns(self, alloc: Global) -> Result<GraphColumns, NoMemory>
+        ensures { IfOk result (AreColumnsOf self) }
+    {
+        let Graph {
+            schema,
+            vertices,
+            edges,
+            ends,
+            counts,
+        } = self;
+        drop(counts);
+        columns_of(alloc, schema, vertices, edges, ends)
     }
 
     /// Whether so many more property cells are too many.
     fn cells_pass(&self, more: usize) -> bool
         ensures { result ≡ nat_lt most_cells (cell_total self.now + more) }
     {
-        let cells = self.vertices.cell_count() + self.edges.cell_count();
-        ((MOST_CELLS - cells) as usize) < more
+        ((MOST_CELLS - self.cell_count()) as usize) < more
+    }
+
+    // ---- keys and seats
+
+    fn vertex_is_taken(&self, table: u32, key: i64) -> bool
+        ensures { result ≡ key_is_taken self.now.schema.keys vertex_key key self.now.vertices table }
+    {
+        is_taken(self.schema.keys(), self.vertices.as_slice(), key, table)
+    }
+
+    fn edge_is_taken(&self, table: u32, key: i64) -> bool
+        ensures { result ≡ key_is_taken self.now.schema.keys edge_key key self.now.edges table }
+    {
+        is_taken(self.schema.keys(), self.edges.as_slice(), key, table)
+    }
+
+    fn has_vertex(&self, table: u32, key: i64) -> bool
+        ensures { result ≡ has_vertex_in key (rows_at self.now.vertices table) }
+    {
+        has_key(self.vertices.as_slice(), table, key)
+    }
+
+    fn has_edge(&self, table: u32, key: i64) -> bool
+        ensures { result ≡ has_edge_in key (rows_at self.now.edges table) }
+    {
+        has_key(self.edges.as_slice(), table, key)
+    }
+
+    /// Whether an edge starts or ends at a vertex that is there.
+    fn is_end(&self, table: u32, key: i64) -> bool
+        requires { IsTrue (has_vertex_in key (rows_at self.now.vertices table)) }
+        ensures { result ≡ key_is_end self.now.schema table key self.now.edges }
+    {
+        match seat_of(self.vertices.as_slice(), table, key) {
+            Some(seat) => 0 < count_of(self.counts.as_slice(), table, seat),
+            None => false,
+        }
     }
 
     // ---- vertices
@@ -273,21 +353,33 @@ impl Graph {
         if !values_have_kinds(&shape.props, values) {
             return Some(Why::Kind);
         }
-        if self.vertices.has(key) {
+        if self.vertex_is_taken(table, key) {
             return Some(Why::KeyTaken);
         }
-        if MOST_VERTICES < self.vertices.row_count() + 1 || self.cells_pass(values.len()) {
+        if self.vertex_passes(values.len()) {
             return Some(Why::Limit);
         }
         None
     }
 
-    fn add_vertex(&mut self, table: u32, key: i64, values: List<Value>) -> Result<(), NoMemory>
+    /// Whether one more vertex with so many values is too much.
+    fn vertex_passes(&self, more: usize) -> bool
+        ensures { result ≡ (nat_lt most_vertices (vertex_total self.now + 1) || nat_lt most_cells (cell_total self.now + more)) }
+    {
+        MOST_VERTICES < self.vertex_count() + 1 || self.cells_pass(more)
+    }
+
+    pub(crate) fn add_vertex(
+        &mut self,
+        table: u32,
+        key: i64,
+        values: List<Value>,
+    ) -> Result<(), NoMemory>
         requires { misfit self.old (Change.InsertVertex table key values) ≡ None }
         ensures ok { OnOk result (self.new ≡ changed self.old (Change.InsertVertex table key values)) }
         ensures err { OnErr result (self.new ≡ self.old) }
     {
-        self.vertices.push(table, VertexRow { key, values })?;
+        push_row(&mut self.vertices, table, key, values)?;
         Ok(())
     }
 
@@ -297,20 +389,25 @@ impl Graph {
         if self.schema.vertices().get(table as usize).is_none() {
             return Some(Why::Table);
         }
-        if !self.vertices.has_in(table, key) {
+        if !self.has_vertex(table, key) {
             return Some(Why::KeyMissing);
         }
-        if edge_ends_at(self.edges.as_slice(), key) {
+        if self.is_end(table, key) {
             return Some(Why::HasEdges);
         }
         None
     }
 
-    fn drop_vertex(&mut self, table: u32, key: i64)
+    fn drop_vertex(&mut self, table: u32, key: i64) -> Result<(), NoMemory>
         requires { misfit self.old (Change.DeleteVertex table key) ≡ None }
-        ensures { self.new ≡ changed self.old (Change.DeleteVertex table key) }
+        ensures ok { OnOk result (self.new ≡ changed self.old (Change.DeleteVertex table key)) }
+        ensures err { OnErr result (self.new ≡ self.old) }
     {
-        self.vertices.remove(table, key);
+        let Some(seat) = seat_of(self.vertices.as_slice(), table, key) else {
+            return Ok(());
+        };
+        remove_row(&mut self.vertices, table, seat)?;
+        Ok(())
     }
 
     fn set_vertex_misfit(&self, table: u32, key: i64, prop: u32, value: &Value) -> Option<Why>
@@ -325,18 +422,30 @@ impl Graph {
         if !place.kind.fits(value.cell()) {
             return Some(Why::Kind);
         }
-        if !self.vertices.has_in(table, key) {
+        if !self.has_vertex(table, key) {
             return Some(Why::KeyMissing);
         }
         None
     }
 
-    fn put_vertex_value(&mut self, table: u32, key: i64, prop: u32, value: Value)
+    fn put_vertex_value(
+        &mut self,
+        table: u32,
+        key: i64,
+        prop: u32,
+        value: Value,
+    ) -> Result<(), NoMemory>
         requires { misfit self.old (Change.SetVertex table key prop value) ≡ None }
-        ensures { self.new ≡ changed self.old (Change.SetVertex table key prop value) }
+        ensures ok { OnOk result (self.new ≡ changed self.old (Change.SetVertex table key prop value)) }
+        ensures err { OnErr result (self.new ≡ self.old) }
     {
-        self.vertices.set_value(table, key, prop, value);
+        let Some(seat) = seat_of(self.vertices.as_slice(), table, key) else {
+            return Ok(());
+        };
+        set_value(&mut self.vertices, table, seat, prop, value)?;
+        Ok(())
     }
+
     // ---- edges
 
     /// Puts an edge at the end of a table, where it fits.
@@ -389,12 +498,12 @@ impl Graph {
         width: usize,
     ) -> Option<Why>
         requires { table < length self.now.schema.edges }
-        ensures { result ≡ (if has_edge key self.now.edges then Some KeyTaken
+        ensures { result ≡ (if key_is_taken self.now.schema.keys edge_key key self.now.edges table then Some KeyTaken
             else if not (has_vertex_in source (rows_at self.now.vertices (source_at self.now.schema table))) || not (has_vertex_in destination (rows_at self.now.vertices (destination_at self.now.schema table))) then Some EndMissing
             else if nat_lt most_edges (edge_total self.now + 1) || nat_lt most_cells (cell_total self.now + width) then Some Limit
             else None) }
     {
-        if self.edges.has(key) {
+        if self.edge_is_taken(table, key) {
             return Some(Why::KeyTaken);
         }
         if self.ends_missing(table, source, destination) {
@@ -419,8 +528,8 @@ impl Graph {
     {
         match self.edge_table(table) {
             Some(shape) => {
-                !self.vertices.has_in(shape.source, source)
-                    || !self.vertices.has_in(shape.destination, destination)
+                !self.has_vertex(shape.source, source)
+                    || !self.has_vertex(shape.destination, destination)
             }
             None => true,
         }
@@ -430,10 +539,10 @@ impl Graph {
     fn edge_passes(&self, more: usize) -> bool
         ensures { result ≡ (nat_lt most_edges (edge_total self.now + 1) || nat_lt most_cells (cell_total self.now + more)) }
     {
-        MOST_EDGES < self.edges.row_count() + 1 || self.cells_pass(more)
+        MOST_EDGES < self.edge_count() + 1 || self.cells_pass(more)
     }
 
-    fn add_edge(
+    pub(crate) fn add_edge(
         &mut self,
         table: u32,
         key: i64,
@@ -445,13 +554,18 @@ impl Graph {
         ensures ok { OnOk result (self.new ≡ changed self.old (Change.InsertEdge table key source destination values)) }
         ensures err { OnErr result (self.new ≡ self.old) }
     {
-        let row = EdgeRow {
-            key,
-            source,
-            destination,
-            values,
+        let shapes = self.schema.edges();
+        let Some(ends) = ends_of(shapes, self.vertices.as_slice(), table, source, destination)
+        else {
+            return Ok(());
         };
-        self.edges.push(table, row)?;
+        let from = source_of(shapes, table);
+        let to = destination_of(shapes, table);
+        grow_for(&mut self.counts, from, to, ends)?;
+        let place = seat_count(self.edges.as_slice(), table);
+        put_ends_in(&mut self.ends, table, place, ends)?;
+        push_row(&mut self.edges, table, key, values)?;
+        count_ends(&mut self.counts, from, to, ends);
         Ok(())
     }
 
@@ -461,17 +575,26 @@ impl Graph {
         if self.schema.edges().get(table as usize).is_none() {
             return Some(Why::Table);
         }
-        if !self.edges.has_in(table, key) {
+        if !self.has_edge(table, key) {
             return Some(Why::KeyMissing);
         }
         None
     }
 
-    fn drop_edge(&mut self, table: u32, key: i64)
+    fn drop_edge(&mut self, table: u32, key: i64) -> Result<(), NoMemory>
         requires { misfit self.old (Change.DeleteEdge table key) ≡ None }
-        ensures { self.new ≡ changed self.old (Change.DeleteEdge table key) }
+        ensures ok { OnOk result (self.new ≡ changed self.old (Change.DeleteEdge table key)) }
+        ensures err { OnErr result (self.new ≡ self.old) }
     {
-        self.edges.remove(table, key);
+        let Some(seat) = seat_of(self.edges.as_slice(), table, key) else {
+            return Ok(());
+        };
+        let from = source_of(self.schema.edges(), table);
+        let to = destination_of(self.schema.edges(), table);
+        let ends = ends_in_seat(self.ends.as_slice(), table, seat);
+        remove_row(&mut self.edges, table, seat)?;
+        forget_ends(&mut self.counts, from, to, ends);
+        Ok(())
     }
 
     fn set_edge_misfit(&self, table: u32, key: i64, prop: u32, value: &Value) -> Option<Why>
@@ -486,16 +609,27 @@ impl Graph {
         if !place.kind.fits(value.cell()) {
             return Some(Why::Kind);
         }
-        if !self.edges.has_in(table, key) {
+        if !self.has_edge(table, key) {
             return Some(Why::KeyMissing);
         }
         None
     }
 
-    fn put_edge_value(&mut self, table: u32, key: i64, prop: u32, value: Value)
+    fn put_edge_value(
+        &mut self,
+        table: u32,
+        key: i64,
+        prop: u32,
+        value: Value,
+    ) -> Result<(), NoMemory>
         requires { misfit self.old (Change.SetEdge table key prop value) ≡ None }
-        ensures { self.new ≡ changed self.old (Change.SetEdge table key prop value) }
+        ensures ok { OnOk result (self.new ≡ changed self.old (Change.SetEdge table key prop value)) }
+        ensures err { OnErr result (self.new ≡ self.old) }
     {
-        self.edges.set_value(table, key, prop, value);
+        let Some(seat) = seat_of(self.edges.as_slice(), table, key) else {
+            return Ok(());
+        };
+        set_value(&mut self.edges, table, seat, prop, value)?;
+        Ok(())
     }
 }

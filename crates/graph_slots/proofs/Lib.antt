@@ -2,3 +2,6 @@ pub mod Kept
 pub mod More
 pub mod Few
 pub mod Order
+pub mod Starts
+pub mod SlotAt
+pub mod FewNumbers

@@ -1,3 +1,5 @@
 pub mod Slots
 pub mod Meaning
 pub mod Touched
+pub mod Numbers
+pub mod Layout

@@ -8,14 +8,18 @@
 //! A graph after changes shares the parts of the slots that no change touches. [`touches`] tells whether a change touches a
 //! slot, and the laws `slot_is_kept` and `slot_is_kept_by_all` say why sharing is right: a slot that is not touched holds
 //! the same part as before.
+//!
+//! A [`Layout`] is a schema with its slots numbered: it finds the number of a slot by its name and the name by its number.
 #![tactic(auto)]
 
 mod laws;
+mod layout;
 mod part;
 mod slot;
 mod touch;
 
 pub use laws::{one_more_change, slot_is_kept, slot_is_kept_by_all, slots_are_few};
+pub use layout::Layout;
 pub use part::Part;
 pub use slot::{SlotName, slot_names};
 pub use touch::touches;

@@ -1,24 +1,75 @@
-use Rattle.std.proofs.Common.{◌≡◌, None, sym, ap, subst, w64, FitsSigned}
+use Rattle.std.proofs.Common.{◌≡◌, ◌<◌, ◌∙◌, true, None, Some, arith, sym, ap, subst, length, get_or, FitsSigned, w64}
+use Rattle.std.specs.Prelude.{IsTrue}
+use Rattle.std.specs.List.{position, list_any}
 use Rattle.std.proofs.lemmas.Int.{to_z-of_z}
+use Rattle.column_types.specs.Value.{fits_kind}
+use Rattle.column_types.specs.declared.kind.Kind.TheVariants as kind
 use Rattle.graph_model.specs.declared.change.Change.TheVariants.{SetEdge}
-use Rattle.graph_model.specs.Graph.{GraphData}
+use Rattle.graph_model.specs.Graph.{GraphData, edge_props_at}
 use Rattle.graph_model.specs.Change.{misfit, changed}
-use Rattle.graph_model.proofs.EdgeChanges.{fits_set, set_keeps}
+use Rattle.graph_model.specs.Seats.{sits}
+use Rattle.graph_model.specs.Stored.{seats_at, stored_graph}
+use Rattle.graph_model.proofs.Rows.{has_position}
+use Rattle.graph_model.proofs.Zips.{AllZip-length}
+use Rattle.graph_model.proofs.EdgeChanges.{fits_set}
+use Rattle.graph_model.proofs.StoredRows.{has_edge_is, edge_kinds_at, kind_at}
+use Rattle.graph_model.proofs.StoredVertices.{found_at}
+use Rattle.graph_model.proofs.StoredEdges.{set_edge_view, set_edge_stored}
+use Rattle.graph_model.proofs.Kept.{set_counted}
 use Rattle.graph_model.proofs.graph.Graph.put_edge_value.Goals as goal
 
-pub invariant_of-self : goal.invariant_of-self
-invariant_of-self c =
-    let g : GraphData = record { schema = c.self.inside.schema; vertices = c.self.inside.vertices; edges = c.self.inside.edges } in
+pub returns-in_default-clause-ok : goal.returns-in_default-clause-ok
+returns-in_default-clause-ok c =
+    let g = c.self.inside in
     let a = c.args in
-    let fits = fits_set g a.table a.key a.prop a.value (subst (λ h. misfit h (SetEdge a.table a.key a.prop a.value) ≡ None) (sym c.self.view_is) c.requires) in
     let key : FitsSigned w64 a.key = c.ranges.key in
-    let tables = simp to_z-of_z at c.set_value.ensures in
-    rw tables (set_keeps g a.table a.key a.prop a.value c.self.invariant fits)
+    let now = stored_graph g.schema g.vertices g.edges g.ends in
+    let fits = fits_set now a.table a.key a.prop a.value (subst (λ h. misfit h (SetEdge a.table a.key a.prop a.value) ≡ None) (sym c.self.view_is) c.requires) in
+    let within : a.table < length g.edges = omega (arith, fits.table, AllZip-length _ g.schema.edges g.edges c.self.invariant.stored.edge_kinds) in
+    let told = rw (to_z-of_z w64 a.key key, c.as_slice.ensures) at c.seat_of.ensures in
+    let there : list_any (sits a.key) (seats_at g.edges a.table) ≡ true = sym (has_edge_is g.schema g.vertices g.edges g.ends c.self.invariant.stored.long a.table a.key) ∙ fits.key in
+    absurd (has_position (sits a.key) (seats_at g.edges a.table) there (sym told ∙ c.in_default.is))
 
-pub returns : goal.returns
-returns c =
-    let g : GraphData = record { schema = c.self.inside.schema; vertices = c.self.inside.vertices; edges = c.self.inside.edges } in
+pub set_value-requires-clause-prop : goal.set_value-requires-clause-prop
+set_value-requires-clause-prop c =
+    let g = c.self.inside in
+    let a = c.args in
+    let now = stored_graph g.schema g.vertices g.edges g.ends in
+    let fits = fits_set now a.table a.key a.prop a.value (subst (λ h. misfit h (SetEdge a.table a.key a.prop a.value) ≡ None) (sym c.self.view_is) c.requires) in
+    let kinds = edge_kinds_at g.schema.edges g.edges a.table c.self.invariant.stored.edge_kinds fits.table in
+    let ok = kind_at (edge_props_at g.schema a.table) a.prop a.value fits.kind in
+    omega (arith, ok.0, ap length kinds)
+
+pub set_value-requires-clause-fits : goal.set_value-requires-clause-fits
+set_value-requires-clause-fits c =
+    let g = c.self.inside in
+    let a = c.args in
+    let now = stored_graph g.schema g.vertices g.edges g.ends in
+    let fits = fits_set now a.table a.key a.prop a.value (subst (λ h. misfit h (SetEdge a.table a.key a.prop a.value) ≡ None) (sym c.self.view_is) c.requires) in
+    let kinds = edge_kinds_at g.schema.edges g.edges a.table c.self.invariant.stored.edge_kinds fits.table in
+    let ok = kind_at (edge_props_at g.schema a.table) a.prop a.value fits.kind in
+    subst (λ ks. IsTrue (fits_kind (get_or ks a.prop kind.Long) a.value)) (sym kinds) ok.1
+
+pub invariant_of-self-2 : goal.invariant_of-self-2
+invariant_of-self-2 c =
+    let g = c.self.inside in
     let a = c.args in
     let key : FitsSigned w64 a.key = c.ranges.key in
-    let tables = simp to_z-of_z at c.set_value.ensures in
-    rw tables (ap (λ h. changed h (SetEdge a.table a.key a.prop a.value)) c.self.view_is)
+    let now = stored_graph g.schema g.vertices g.edges g.ends in
+    let fits = fits_set now a.table a.key a.prop a.value (subst (λ h. misfit h (SetEdge a.table a.key a.prop a.value) ≡ None) (sym c.self.view_is) c.requires) in
+    let within : a.table < length g.edges = omega (arith, fits.table, AllZip-length _ g.schema.edges g.edges c.self.invariant.stored.edge_kinds) in
+    let told = rw (to_z-of_z w64 a.key key, c.as_slice.ensures) at c.seat_of.ensures in
+    let found = found_at (seats_at g.edges a.table) a.key c.in-Some.seat (sym told ∙ c.in-Some.is) in
+    rw c.in_ok-set_value.ensures.ok (record { stored = set_edge_stored g.schema g.vertices g.edges g.ends c.self.invariant.stored a.table within a.key c.in-Some.seat found a.prop a.value fits; counted = set_counted g.schema g.vertices g.edges g.ends c.self.invariant.stored a.table within a.key c.in-Some.seat found a.prop a.value g.counts c.self.invariant.counted })
+
+pub returns-clause-ok : goal.returns-clause-ok
+returns-clause-ok c =
+    let g = c.self.inside in
+    let a = c.args in
+    let key : FitsSigned w64 a.key = c.ranges.key in
+    let now = stored_graph g.schema g.vertices g.edges g.ends in
+    let fits = fits_set now a.table a.key a.prop a.value (subst (λ h. misfit h (SetEdge a.table a.key a.prop a.value) ≡ None) (sym c.self.view_is) c.requires) in
+    let within : a.table < length g.edges = omega (arith, fits.table, AllZip-length _ g.schema.edges g.edges c.self.invariant.stored.edge_kinds) in
+    let told = rw (to_z-of_z w64 a.key key, c.as_slice.ensures) at c.seat_of.ensures in
+    let found = found_at (seats_at g.edges a.table) a.key c.in-Some.seat (sym told ∙ c.in-Some.is) in
+    rw c.in_ok-set_value.ensures.ok (set_edge_view g.schema g.vertices g.edges g.ends c.self.invariant.stored a.table within a.key c.in-Some.seat found a.prop a.value ∙ ap (λ h. changed h (SetEdge a.table a.key a.prop a.value)) c.self.view_is)
