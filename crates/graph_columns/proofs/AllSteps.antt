@@ -1,6 +1,7 @@
 -- the steps of all slots
-use Rattle.std.proofs.Common.{◌≡◌, ℕ, zero, suc, ◌+◌, ◌*◌, List, [], ◌∷◌, length, map, sum_by, refl, ap, sym, ◌∙◌, arith}
+use Rattle.std.proofs.Common.{◌≡◌, ℕ, suc, ◌+◌, ◌*◌, List, [], ◌∷◌, length, map, sum_by, refl, ap, sym, ◌∙◌, arith, pos}
 use Rattle.std.specs.List.{AllZip, range_with_len}
+use Rattle.std.proofs.lemmas.List.{length-map}
 use Rattle.std.proofs.lemmas.List.FromFn.{length-range_with_len}
 use Rattle.std.proofs.lemmas.List.Sums.{sum_by-cons, sum_by-append}
 use Rattle.graph_schema.specs.declared.schema.VertexTable.{VertexTable}
@@ -8,7 +9,11 @@ use Rattle.graph_schema.specs.declared.schema.EdgeTable.{EdgeTable}
 use Rattle.graph_model.specs.declared.row.VertexRow.{VertexRow}
 use Rattle.graph_model.specs.declared.row.EdgeRow.{EdgeRow}
 use Rattle.graph_model.specs.Keys.{rows_at, cells_in, row_total, value_total}
-use Rattle.graph_model.specs.Graph.{GraphData, IsGraph, AreVertices, AreEdges, vertex_values, edge_values, vertex_total, edge_total, cell_total}
+use Rattle.column_types.specs.declared.value.Value.TheVariants.{Integer, Long}
+use Rattle.column_types.specs.Column.{ColumnData}
+use Rattle.graph_slots.specs.declared.part.Part.TheVariants.{Cells}
+use Rattle.graph_slots.specs.Meaning.{slot_value, value_at, source_places, destination_places}
+use Rattle.graph_model.specs.Graph.{vertex_key, edge_key, GraphData, IsGraph, AreVertices, AreEdges, vertex_values, edge_values, vertex_total, edge_total, cell_total}
 use Rattle.graph_slots.specs.declared.slot.SlotName.{SlotName}
 use Rattle.graph_slots.specs.declared.slot.SlotName.TheVariants.{VertexKey, VertexProp, EdgeKey, Source, Destination, Out, Into, EdgeProp}
 use Rattle.graph_slots.specs.Slots.{slots, vertex_table_slots, edge_table_slots, vertex_slots, edge_slots}
@@ -94,3 +99,31 @@ all_steps g is =
     let vertices = vertex_steps g 0 g.schema.vertices g.vertices is.vertices (from_first g.vertices) in
     let edges = edge_steps g 0 g.schema.edges g.edges is.edges (from_first g.edges) in
     omega (arith, vertices, edges, sum_by-append f (vertex_slots 0 g.schema.vertices) (edge_slots 0 g.schema.edges))
+
+-- ---- one slot
+
+same_cells : (a b : ColumnData) → Cells a ≡ Cells b → a ≡ b
+same_cells a b e = cc
+
+long_by : (n : ℕ) (a c : ColumnData) → Cells a ≡ Cells c → length a.values ≡ n → length c.values ≡ n
+long_by n a c e long = ap (λ (d : ColumnData). length d.values) (sym (same_cells a c e)) ∙ long
+
+twice : {R X Y : Type 0} (f : R → X) (h : X → Y) (rows : List R) → length (map h (map f rows)) ≡ length rows
+twice f h rows = length-map (map f rows) h ∙ length-map rows f
+
+-- a slot's column has as many values as the slot takes steps
+pub slot_long : (g : GraphData) (x : SlotName) (c : ColumnData) → slot_value g x ≡ Cells c → length c.values ≡ slot_steps g x
+slot_long g (VertexKey t) c e = long_by (length (rows_at g.vertices t)) _ c e (twice vertex_key Long (rows_at g.vertices t))
+slot_long g (VertexProp t p) c e = long_by (length (rows_at g.vertices t)) _ c e (length-map (rows_at g.vertices t) (λ (r : VertexRow). value_at p r.values))
+slot_long g (EdgeKey t) c e = long_by (length (rows_at g.edges t)) _ c e (twice edge_key Long (rows_at g.edges t))
+slot_long g (Source t) c e = long_by (length (rows_at g.edges t)) _ c e (length-map (source_places g t) (λ n. Integer (pos n)) ∙ length-map (rows_at g.edges t) _)
+slot_long g (Destination t) c e = long_by (length (rows_at g.edges t)) _ c e (length-map (destination_places g t) (λ n. Integer (pos n)) ∙ length-map (rows_at g.edges t) _)
+slot_long g (Out t) c e = cc
+slot_long g (Into t) c e = cc
+slot_long g (EdgeProp t p) c e = long_by (length (rows_at g.edges t)) _ c e (length-map (rows_at g.edges t) (λ (r : EdgeRow). value_at p r.values))
+
+pub sources_long : (g : GraphData) (t : ℕ) → length (source_places g t) ≡ slot_steps g (Out t)
+sources_long g t = length-map (rows_at g.edges t) _
+
+pub destinations_long : (g : GraphData) (t : ℕ) → length (destination_places g t) ≡ slot_steps g (Into t)
+destinations_long g t = length-map (rows_at g.edges t) _

@@ -8,3 +8,5 @@ pub mod Tables
 pub mod GraphTables
 pub mod SlotParts
 pub mod AllSteps
+pub mod ColumnTables
+pub mod Pushed

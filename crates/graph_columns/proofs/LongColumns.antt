@@ -1,5 +1,5 @@
 -- columns of keys hold LONGs alone
-use Rattle.std.proofs.Common.{◌≡◌, ℕ, ℤ, List, map, Contains, get_or, refl, ap, sym, subst, ◌∙◌}
+use Rattle.std.proofs.Common.{◌≡◌, ℤ, List, map, Contains, refl, ap, sym, subst, ◌∙◌}
 use Rattle.std.specs.Prelude.{◌≢◌, ◌⊎◌}
 use Rattle.std.proofs.Common.{inl, inr}
 use Rattle.std.proofs.lemmas.List.Elements.{All-map, All-contains}

@@ -1,12 +1,12 @@
 -- where the rows of a table stand by their keys
-use Rattle.std.proofs.Common.{◌≡◌, ℕ, zero, suc, ◌+◌, ◌<◌, ◌≤◌, ℤ, Bool, true, false, List, [], ◌∷◌, Some, None, length, get_or, slice_get, map, cond, sum_by, count_by, refl, ap, sym, ◌∙◌, arith}
+use Rattle.std.proofs.Common.{◌≡◌, ℕ, zero, suc, ◌+◌, ◌<◌, ◌≤◌, ℤ, Bool, true, false, List, [], ◌∷◌, Some, None, length, get_or, slice_get, map, cond, sum_by, refl, ap, sym, ◌∙◌, arith}
 use Rattle.std.specs.Prelude.{nat_lt, position}
 use Rattle.std.specs.List.{list_any, position_or_len}
 use Rattle.std.specs.Option.{option_map}
 use Rattle.std.specs.Ordering.{int_eq}
 use Rattle.std.proofs.lemmas.Bool.Decides.{nat_tests, Decides-int_eq}
 use Rattle.std.proofs.lemmas.List.Sums.{sum_by-cons}
-use Rattle.graph_model.specs.Keys.{rows_at, count_in, key_count}
+use Rattle.graph_model.specs.Keys.{rows_at, count_in}
 use Rattle.graph_model.proofs.Rows.{or_false, got, has_position, position_of_one}
 use Rattle.graph_columns.proofs.Places.{position_cons}
 
@@ -54,8 +54,3 @@ row_found {R} key rows place row there once =
     let here = got rows place row row there in
     let passes : p (get_or rows place row) ≡ true = ap p here.1 ∙ (Decides-int_eq (key row) (key row)).1 refl in
     position-map (λ q. int_eq q (key row)) key rows ∙ position_of_one p rows place row here.0 passes once
-
--- so it is where no other row of all tables has it
-pub row_stands : {R : Type 0} (key : R → ℤ) (tables : List (List R)) (t place : ℕ) (row : R) → slice_get (rows_at tables t) place ≡ Some row → key_count key (key row) tables ≤ 1 → position (λ q. int_eq q (key row)) (map key (rows_at tables t)) ≡ Some place
-row_stands {R} key tables t place row there once =
-    row_found key (rows_at tables t) place row there (omega (arith, once, rows_within (λ (rs : List R). count_in key (key row) rs) tables t refl))

@@ -1,3 +1,3 @@
 pub mod Keys
-pub mod Props
 pub mod SlotSteps
+pub mod TableParts

@@ -1,56 +1,85 @@
-//! The parts of a graph.
-ghost use Rattle.std.specs.Prelude.{◌≡◌, ◌≤◌, ◌+◌, ◌*◌, map, IfOk, OnOk};
-ghost use Rattle.graph_model.specs.Graph.{vertex_total, edge_total, cell_total};
-ghost use Rattle.graph_slots.specs.Slots.{slots};
-ghost use Rattle.graph_slots.specs.Meaning.{slot_value};
-ghost use Rattle.graph_columns.specs.Keys.{vertex_keys, edge_keys};
+//! Parts one at a time, each made of a column of a graph. Nothing is copied but what rows need.
+ghost use Rattle.std.specs.Prelude.{◌≡◌, ◌<◌, ◌≤◌, ◌+◌, IfOk, OnOk, length, map};
+ghost use Rattle.graph_slots.specs.Meaning.{longs, edge_rows};
+ghost use Rattle.graph_slots.specs.declared.part.Part.TheVariants.{Cells as CellsOf};
+ghost use Rattle.graph_columns.specs.TableParts.{ArePlaces, integers, places_told};
 
-use crate::TableIndex;
-use crate::edge_parts::{edge_indexes, push_edge_tables};
-use crate::vertex_parts::{push_vertex_tables, vertex_indexes};
-use column_types::{List, NoMemory, Shared, Steps};
-use graph_model::Graph;
+use column_types::{EditableColumn, List, NoMemory, Shared, Steps};
+use csr_rows::Rows;
 use graph_slots::Part;
 use std::alloc::Global;
 use std::sync::ledger::Ledger;
 
-/// What each slot of a graph holds, in slot order, and where the keys of each vertex table and of each edge table stand.
-#[derive(Drop)]
-pub struct GraphParts {
-    pub parts: List<Part>,
-    pub vertices: List<Shared<TableIndex>>,
-    pub edges: List<Shared<TableIndex>>,
+/// More than the place of any vertex.
+const MOST_VERTICES: u32 = 1_048_576;
+
+/// Keys, for a step each. They are moved.
+pub fn key_part<L: Ledger>(
+    alloc: Global,
+    keys: List<i64>,
+    steps: &mut Steps<L>,
+) -> Result<Part, NoMemory>
+    requires { length keys < 4294967296 }
+    ensures part { IfOk result (λ part. part ≡ longs keys) }
+    ensures counted { steps.new ≡ steps.old + length keys }
+{
+    let column = EditableColumn::of_longs(alloc, keys).finish(steps);
+    Ok(Part::Cells(Shared::new(alloc, column)?))
 }
 
-/// The parts of a graph, and the indexes of its keys. It counts a step for each property cell, for each vertex its key, and
-/// for each edge its key, its two places and its two rows; where memory runs out, no more than these.
-pub fn all_parts<L: Ledger>(
+/// The values of a property, for a step each. They are moved.
+pub fn prop_part<L: Ledger>(
     alloc: Global,
-    graph: &Graph,
+    values: EditableColumn,
     steps: &mut Steps<L>,
-) -> Result<GraphParts, NoMemory>
-    ensures parts { IfOk result (λ made. made.parts ≡ map (slot_value graph.now) (slots graph.now.schema)) }
-    ensures vertices { IfOk result (λ made. made.vertices ≡ vertex_keys graph.now) }
-    ensures edges { IfOk result (λ made. made.edges ≡ edge_keys graph.now) }
-    ensures counted { OnOk result (steps.new ≡ steps.old + (cell_total graph.now + vertex_total graph.now + 5 * edge_total graph.now)) }
-    ensures least { steps.old ≤ steps.new }
-    ensures most { steps.new ≤ steps.old + (cell_total graph.now + vertex_total graph.now + 5 * edge_total graph.now) }
+) -> Result<Part, NoMemory>
+    ensures part { IfOk result (λ part. part ≡ CellsOf values) }
+    ensures counted { steps.new ≡ steps.old + length values.values }
 {
-    let vertices = vertex_indexes(alloc, graph, steps)?;
-    let edges = edge_indexes(alloc, graph, steps)?;
-    let mut parts = List::new(alloc);
-    push_vertex_tables(alloc, graph, vertices.as_slice(), &mut parts, steps)?;
-    push_edge_tables(
-        alloc,
-        graph,
-        vertices.as_slice(),
-        edges.as_slice(),
-        &mut parts,
-        steps,
-    )?;
-    Ok(GraphParts {
-        parts,
-        vertices,
-        edges,
-    })
+    Ok(Part::Cells(Shared::new(alloc, values.finish(steps))?))
+}
+
+/// Places where edges start or end, for a step each. They are moved.
+pub fn place_part<L: Ledger>(
+    alloc: Global,
+    places: List<i32>,
+    steps: &mut Steps<L>,
+) -> Result<Part, NoMemory>
+    requires { length places < 4294967296 }
+    ensures part { IfOk result (λ part. part ≡ integers places) }
+    ensures counted { steps.new ≡ steps.old + length places }
+{
+    let column = EditableColumn::of_integers(alloc, places).finish(steps);
+    Ok(Part::Cells(Shared::new(alloc, column)?))
+}
+
+/// Places as the ends that rows are made of.
+fn ends_of(alloc: Global, places: &[i32]) -> Result<List<u32>, NoMemory>
+    requires { ArePlaces places.now }
+    ensures { IfOk result (λ ends. ends ≡ places_told places.now) }
+{
+    let mut ends = List::new(alloc);
+    for place in places {
+        ends.push(*place as u32)?;
+    }
+    Ok(ends)
+}
+
+/// For each vertex the places of the edges that start, or end, there, for a step for each edge. `places` are where the edges
+/// start, or end.
+pub fn row_part<L: Ledger>(
+    alloc: Global,
+    places: &[i32],
+    steps: &mut Steps<L>,
+) -> Result<Part, NoMemory>
+    requires places { ArePlaces places.now }
+    requires few { length places.now < 4294967295 }
+    ensures part { IfOk result (λ part. part ≡ edge_rows (places_told places.now)) }
+    ensures counted { OnOk result (steps.new ≡ steps.old + length places.now) }
+    ensures least { steps.old ≤ steps.new }
+    ensures most { steps.new ≤ steps.old + length places.now }
+{
+    let ends = ends_of(alloc, places)?;
+    let rows = Rows::build(alloc, MOST_VERTICES, ends.as_slice(), steps)?;
+    Ok(Part::Rows(Shared::new(alloc, rows)?))
 }

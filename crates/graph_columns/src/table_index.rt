@@ -1,17 +1,15 @@
 //! Where the keys of one table stand.
-ghost use Rattle.std.specs.Prelude.{◌≡◌, ◌<◌, ◌≤◌, ◌+◌, ℤ, IfOk, OnOk, length, map, Some, None, position, if◌then◌else◌};
+ghost use Rattle.std.specs.Prelude.{◌≡◌, ◌<◌, ℤ, IfOk, OnOk, length, Some, None, position, if◌then◌else◌};
 ghost use Rattle.std.specs.Option.{option_or};
 ghost use Rattle.std.specs.Ordering.{int_eq};
 ghost use Rattle.std.specs.HashMap.{get};
 ghost use Rattle.graph_columns.specs.Keys.{key_column, keys_of, IsKeyColumn};
 
-use crate::column::{column_of_keys, key_slice};
-use crate::row::Row;
-use column_types::{Column, NoMemory, Shared, Steps};
+use crate::column::key_slice;
+use column_types::{Column, NoMemory, Shared};
 use std::alloc::Global;
 use std::collections::HashMap;
 use std::marker::Model;
-use std::sync::ledger::Ledger;
 
 /// Where the keys of a table stand, each found in constant time. Seen as the keys in order. It holds the column of the keys,
 /// which it shares.
@@ -87,22 +85,4 @@ impl TableIndex {
     {
         self.column.share()
     }
-}
-
-/// The index of the keys of rows, a step for each.
-pub(crate) fn index_of_rows<R: Row, L: Ledger>(
-    alloc: Global,
-    rows: &[R],
-    steps: &mut Steps<L>,
-) -> Result<Shared<TableIndex>, NoMemory>
-    requires { length rows.now < 4294967296 }
-    ensures index { IfOk result (λ index. index ≡ map R.key_of rows.now) }
-    ensures counted { OnOk result (steps.new ≡ steps.old + length rows.now) }
-    ensures least { steps.old ≤ steps.new }
-    ensures most { steps.new ≤ steps.old + length rows.now }
-{
-    let keys = column_of_keys(alloc, rows, steps)?;
-    let column = Shared::new(alloc, keys)?;
-    let index = TableIndex::of_column(alloc, column)?;
-    Ok(Shared::new(alloc, index)?)
 }

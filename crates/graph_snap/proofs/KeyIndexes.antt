@@ -1,30 +1,25 @@
 -- indexes of the keys that parts hold
-use Rattle.std.proofs.Common.{◌≡◌, ℕ, zero, suc, ◌+◌, ◌<◌, ℤ, List, [], ◌∷◌, ◌++◌, Option, Some, None, option_map, length, get_or, map, slice_get, refl, ap, sym, ◌∙◌, subst, arith, length-append}
+use Rattle.std.proofs.Common.{◌≡◌, ℕ, zero, suc, ◌+◌, ◌<◌, ℤ, List, [], ◌∷◌, ◌++◌, Option, Some, option_map, length, get_or, map, slice_get, ap, sym, ◌∙◌, arith, length-append}
 use Rattle.std.proofs.lemmas.List.{length-map}
-use Rattle.std.proofs.lemmas.Option.{slice_get-map, same_Some, slice_get_within, slice_get-get_or}
+use Rattle.std.proofs.lemmas.Option.{slice_get-map, same_Some}
 use Rattle.column_types.specs.Column.{ColumnData}
 use Rattle.graph_schema.specs.Schema.{SchemaData}
-use Rattle.graph_model.specs.declared.row.VertexRow.{VertexRow}
-use Rattle.graph_model.specs.declared.row.EdgeRow.{EdgeRow}
-use Rattle.graph_model.specs.Keys.{rows_at}
 use Rattle.graph_model.specs.Graph.{GraphData, IsGraph, vertex_key, edge_key}
 use Rattle.graph_model.proofs.Zips.{AllZip-length}
 use Rattle.graph_slots.specs.declared.part.Part.{Part}
 use Rattle.graph_slots.specs.declared.part.Part.TheVariants.{Cells, Rows}
-use Rattle.graph_slots.specs.declared.slot.SlotName.{SlotName}
 use Rattle.graph_slots.specs.declared.slot.SlotName.TheVariants.{VertexKey, EdgeKey}
 use Rattle.graph_slots.specs.Slots.{slots}
 use Rattle.graph_slots.specs.Meaning.{slot_value, longs}
 use Rattle.graph_columns.specs.Keys.{keys_of, IsKeyColumn, vertex_keys, edge_keys, vertex_keys_at, edge_keys_at}
 use Rattle.graph_columns.proofs.Tables.{keys_of-key_column, is_keys, keys_told, index_at}
-use Rattle.graph_snap.specs.Numbers.{slot_number}
+use Rattle.graph_slots.specs.Numbers.{slot_number}
 use Rattle.graph_snap.specs.Seen.{Stands, graph_of}
 use Rattle.graph_snap.specs.Sharing.{graph_parts}
 use Rattle.graph_snap.specs.Indexes.{part_keys, slot_keys, AreIndexes}
 use Rattle.graph_snap.proofs.GraphOf.{slot_part}
 use Rattle.graph_snap.proofs.Known.{slot_known}
 use Rattle.graph_snap.proofs.Readers.{same_cells, got}
-use Rattle.graph_snap.proofs.SlotAt.{get_left, get_right}
 
 -- ---- a part that is a column of keys
 

@@ -1,6 +1,3 @@
-pub mod SlotAt
-pub mod Starts
-pub mod Few
 pub mod GraphOf
 pub mod Columns
 pub mod Snapshots

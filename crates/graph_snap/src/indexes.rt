@@ -8,11 +8,10 @@ ghost use Rattle.graph_snap.specs.Reading.{IsLeast};
 ghost use Rattle.graph_snap.specs.Sharing.{IsKnown, part_of, parts_of};
 ghost use Rattle.graph_snap.specs.Indexes.{slot_keys, AreIndexes};
 
-use crate::layout::Layout;
 use crate::{Derived, Snapshot};
 use column_types::{List, NoMemory, Shared};
 use graph_columns::TableIndex;
-use graph_slots::{Part, SlotName};
+use graph_slots::{Layout, Part, SlotName};
 use std::alloc::Global;
 
 /// The index of the keys that a part holds, made anew.

@@ -7,7 +7,7 @@ ghost use Rattle.graph_model.specs.Graph.{IsGraph, vertex_props_at, edge_props_a
 ghost use Rattle.graph_slots.specs.Slots.{slots};
 ghost use Rattle.graph_slots.specs.Meaning.{slot_value, longs, vertex_prop_values, edge_prop_values, source_places, destination_places};
 ghost use Rattle.graph_slots.specs.declared.part.Part.TheVariants.{Cells as CellsOf, Rows as RowsOf};
-ghost use Rattle.graph_snap.specs.Numbers.{slot_number, HasSlot};
+ghost use Rattle.graph_slots.specs.Numbers.{slot_number, HasSlot};
 ghost use Rattle.graph_snap.specs.Seen.{Stands, IsSnapshot, graph_of, is_column, ends_of};
 ghost use Rattle.graph_snap.specs.Reading.{HasVertex, HasEdge, StartsAt, EndsAt, IsLeast, vertex_keys_at, edge_keys_at, out_places, in_places};
 ghost use Rattle.graph_snap.specs.Sharing.{graph_parts, IsKnown, parts_of, kept_of, IsBuiltOn};
@@ -15,7 +15,6 @@ ghost use Rattle.graph_snap.specs.Indexes.{AreIndexes};
 
 use crate::cells::{place_at, place_slice};
 use crate::indexes::{edge_indexes, first_row, kept_indexes, vertex_indexes};
-use crate::layout::Layout;
 use crate::plain::{edge_tables, edge_values, vertex_tables, vertex_values};
 use crate::sharing::{derived_parts, kept_slots, share_indexes, share_parts};
 use crate::{Built, Derived, EdgeAt, VertexAt};
@@ -24,7 +23,7 @@ use csr_rows::Rows;
 use graph_columns::{GraphParts, TableIndex, all_parts, key_slice};
 use graph_model::{EdgeRow, Graph, VertexRow};
 use graph_schema::Schema;
-use graph_slots::{Part, SlotName};
+use graph_slots::{Layout, Part, SlotName};
 use std::alloc::Global;
 use std::marker::Model;
 use std::sync::ledger::Ledger;
@@ -50,8 +49,8 @@ impl Model for Snapshot {
 }
 
 impl Snapshot {
-    /// The snapshot of a graph. It counts a step for each property cell, for each vertex its key, and for each edge its key,
-    /// its two places and its two rows; where memory runs out, no more than these.
+    /// The snapshot of a graph, which is copied first. It counts a step for each property cell, for each vertex its key, and
+    /// for each edge its key, its two places and its two rows; where memory runs out, no more than these.
     pub fn build<L: Ledger>(
         alloc: Global,
         graph: &Graph,
@@ -62,13 +61,12 @@ impl Snapshot {
         ensures least { steps.old ≤ steps.new }
         ensures most { steps.new ≤ steps.old + (cell_total graph.now + vertex_total graph.now + 5 * edge_total graph.now) }
     {
-        graph.sound();
-        let layout = Layout::new(alloc, graph.schema().clone()?)?;
-        let made = all_parts(alloc, graph, steps)?;
-        Snapshot::of_parts(alloc, layout, made)
+        let copied = graph.copy(alloc)?;
+        Snapshot::of_graph(alloc, copied, steps)
     }
 
-    /// The snapshot of a graph that is not needed any more. It counts as [`Snapshot::build`] does.
+    /// The snapshot of a graph that is not needed any more: its columns and the indexes of its keys are moved, no key is hashed,
+    /// and nothing is copied but what rows need. It counts as [`Snapshot::build`] does.
     pub fn of_graph<L: Ledger>(
         alloc: Global,
         graph: Graph,
@@ -79,7 +77,15 @@ impl Snapshot {
         ensures least { steps.old ≤ steps.new }
         ensures most { steps.new ≤ steps.old + (cell_total graph + vertex_total graph + 5 * edge_total graph) }
     {
-        Snapshot::build(alloc, &graph, steps)
+        graph.sound();
+        let GraphParts {
+            schema,
+            parts,
+            vertices,
+            edges,
+        } = all_parts(alloc, graph, steps)?;
+        let layout = Layout::new(alloc, schema)?;
+        Snapshot::of_parts(alloc, layout, parts, vertices, edges)
     }
 
     /// The snapshot of parts in slot order, which are those of a graph of the schema. No part is copied, and each key is hashed
@@ -133,24 +139,20 @@ impl Snapshot {
         let layout = Layout::new(alloc, schema)?;
         let vertices = vertex_indexes(alloc, &layout, parts.as_slice(), known)?;
         let edges = edge_indexes(alloc, &layout, parts.as_slice(), known)?;
-        let made = GraphParts {
-            parts,
-            vertices,
-            edges,
-        };
-        Snapshot::of_parts(alloc, layout, made)
+        Snapshot::of_parts(alloc, layout, parts, vertices, edges)
     }
 
     /// The snapshot of parts with the indexes of their keys.
-    fn of_parts(alloc: Global, layout: Layout, made: GraphParts) -> Result<Snapshot, NoMemory>
-        requires { IsSnapshot layout made.parts made.vertices made.edges }
-        ensures { IfOk result (λ snapshot. snapshot ≡ graph_of layout made.parts) }
+    fn of_parts(
+        alloc: Global,
+        layout: Layout,
+        parts: List<Part>,
+        vertices: List<Shared<TableIndex>>,
+        edges: List<Shared<TableIndex>>,
+    ) -> Result<Snapshot, NoMemory>
+        requires { IsSnapshot layout parts vertices edges }
+        ensures { IfOk result (λ snapshot. snapshot ≡ graph_of layout parts) }
     {
-        let GraphParts {
-            parts,
-            vertices,
-            edges,
-        } = made;
         Ok(Snapshot {
             layout: Shared::new(alloc, layout)?,
             parts,

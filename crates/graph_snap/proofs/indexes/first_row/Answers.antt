@@ -1,9 +1,9 @@
-use Rattle.std.proofs.Common.{◌≡◌, ℕ, ◌<◌, Some, None, slice_get, get_or, FitsSigned, w64, rules, subst, sym, ◌∙◌, arith}
+use Rattle.std.proofs.Common.{◌≡◌, ℕ, ◌<◌, Some, slice_get, get_or, FitsSigned, w64, rules, subst, sym, ◌∙◌}
 use Rattle.std.specs.Prelude.{position}
 use Rattle.std.specs.Ordering.{int_eq}
 use Rattle.std.proofs.lemmas.Int.{to_z-of_z}
 use Rattle.graph_model.specs.Keys.{rows_at}
-use Rattle.graph_snap.proofs.Found.{place_first, is_least, none_more, none_past}
+use Rattle.graph_snap.proofs.Found.{place_first, is_least, none_more}
 use Rattle.graph_snap.proofs.indexes.first_row.Goals as goal
 
 pub returns-in-Some-clause-found : goal.returns-in-Some-clause-found

@@ -1,4 +1,4 @@
-use Rattle.std.proofs.Common.{◌≡◌, All, map, ap, sym, ◌∙◌, subst}
+use Rattle.std.proofs.Common.{All, map, ap, sym, ◌∙◌, subst}
 use Rattle.graph_snap.specs.Seen.{Stands, graph_of}
 use Rattle.graph_snap.specs.Sharing.{IsKnown, parts_of, kept_of}
 use Rattle.graph_snap.specs.Indexes.{AreIndexes}

@@ -1,5 +1,5 @@
-use Rattle.std.proofs.Common.{◌≡◌, IfOk, ap, sym, ◌∙◌, subst}
-use Rattle.graph_snap.specs.Seen.{Stands, IsSnapshot, graph_of}
+use Rattle.std.proofs.Common.{◌≡◌, IfOk, sym, subst}
+use Rattle.graph_snap.specs.Seen.{graph_of}
 use Rattle.graph_snap.specs.Indexes.{AreIndexes}
 use Rattle.graph_snap.proofs.Snapshots.{stands_at, indexed}
 use Rattle.graph_snap.proofs.snapshot.Snapshot.over.Goals as goal
