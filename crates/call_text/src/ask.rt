@@ -47,7 +47,7 @@ fn push_derive<'a>(
     }
 }
 
-/// Appends a call as it stands in a head line. After want of memory a part of it may have been appended.
+/// Appends a call as it stands in a head line. After running out of memory a part of it may have been appended.
 pub fn push_ask(text: &mut Text, ask: &Ask) -> Result<(), NoMemory>
     ensures { OnOk result (text.new ≡ text.old ++ ask_text ask.now) }
 {

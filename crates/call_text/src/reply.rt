@@ -27,7 +27,7 @@ fn push_columns(text: &mut Text, columns: &[u64]) -> Result<(), NoMemory>
     text.push("\n")
 }
 
-/// Appends the lines of a reply, each ended by a line feed. After want of memory a part of them may have been appended.
+/// Appends the lines of a reply, each ended by a line feed. After running out of memory a part of them may have been appended.
 pub fn push_reply(text: &mut Text, reply: &Reply) -> Result<(), NoMemory>
     ensures { OnOk result (text.new ≡ text.old ++ reply_text reply.now) }
 {
@@ -52,7 +52,7 @@ fn push_refused(text: &mut Text, number: u64, name: &str, values: &[Word]) -> Re
     text.push("\n")
 }
 
-/// Appends the line of a refusal: its number, its name and its values. After want of memory a part of it may have been
+/// Appends the line of a refusal: its number, its name and its values. After running out of memory a part of it may have been
 /// appended.
 pub fn push_refusal(text: &mut Text, refusal: &Refusal) -> Result<(), NoMemory>
     ensures { OnOk result (text.new ≡ text.old ++ refusal_text refusal.now) }

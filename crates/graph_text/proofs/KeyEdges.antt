@@ -1,6 +1,6 @@
 -- the rows of a vertex list the edges whose ends have its key
-use Rattle.std.proofs.Common.{◌≡◌, ℕ, suc, ◌+◌, ◌<◌, ◌≤◌, ℤ, pos, Bool, true, false, ◌==◌, List, [], ◌∷◌, Some, Contains, All, length, get_or, slice_get, map, if◌then◌else◌, refl, ap, sym, ◌∙◌, subst, arith}
-use Rattle.std.specs.List.{filter, list_any}
+use Rattle.std.proofs.Common.{◌≡◌, ℕ, suc, ◌+◌, ◌<◌, ◌≤◌, ℤ, pos, Bool, true, false, ◌==◌, ◌&&◌, List, [], ◌∷◌, Some, Contains, All, length, get_or, slice_get, map, if◌then◌else◌, refl, ap, sym, ◌∙◌, subst, arith}
+use Rattle.std.specs.List.{filter, flat_map, list_any, range_with_len}
 use Rattle.std.specs.Ordering.{int_eq}
 use Rattle.std.proofs.lemmas.Bool.Decides.{nat_tests, Decides-int_eq}
 use Rattle.std.proofs.lemmas.List.{length-map}
@@ -10,16 +10,20 @@ use Rattle.csr_rows.specs.Rows.{places_from, places_of}
 use Rattle.csr_rows.proofs.Meaning.{place_of_end}
 use Rattle.graph_model.specs.declared.row.VertexRow.{VertexRow}
 use Rattle.graph_model.specs.declared.row.EdgeRow.{EdgeRow}
-use Rattle.graph_model.specs.Keys.{rows_at, count_in}
+use Rattle.graph_schema.specs.declared.schema.Keys.TheVariants.{Whole}
+use Rattle.graph_model.specs.Keys.{rows_at, count_in, key_count, AreDistinct}
 use Rattle.graph_model.specs.Graph.{GraphData, IsGraph, vertex_key, edge_key, has_vertex_in, source_at, destination_at}
+use Rattle.graph_model.proofs.Distinct.{once_in}
 use Rattle.graph_model.proofs.Rows.{any_false_at, position_of_one, one_table}
+use Rattle.graph_model.proofs.Zips.{AllZip-length}
 use Rattle.graph_slots.specs.Meaning.{place_in, source_places, destination_places}
 use Rattle.graph_slots.proofs.Kept.{ends_stand}
-use Rattle.graph_columns.proofs.Standing.{place_there, rows_within}
+use Rattle.graph_columns.proofs.Standing.{place_there}
 use Rattle.graph_snap.specs.Reading.{vertex_keys_at, edge_keys_at, out_places, in_places}
 use Rattle.graph_snap.proofs.GraphOf.{place_found}
 use Rattle.graph_snap.proofs.Readers.{got}
-use Rattle.graph_text.specs.Ends.{leaving, entering, keys_at}
+use Rattle.graph_text.specs.Ends.{all_edges, leaving, entering, leaving_in, entering_in, keys_at}
+use Rattle.graph_text.proofs.Tables.{picked_tables}
 
 -- ---- tests
 
@@ -106,49 +110,92 @@ none_passes p [] fail = refl
 none_passes p (r ∷ rows) fail =
     ap (λ b. if b then r ∷ filter p rows else filter p rows) (fail 0 r (omega arith)) ∙ none_passes p rows (λ i d h. fail (suc i) d (omega arith))
 
+-- the edges of a table whose end is a key, where the table's edges have that end in table s: none where s is not t
+abbrev ending : ℕ → ℕ → (EdgeRow → ℤ) → ℤ → List EdgeRow → List ℤ
+ending s t end k rows = map edge_key (filter (λ e. s == t && int_eq (end e) k) rows)
+
+-- and whatever table that is
+abbrev ending_by_key : (EdgeRow → ℤ) → ℤ → List EdgeRow → List ℤ
+ending_by_key end k rows = map edge_key (filter (λ e. int_eq (end e) k) rows)
+
+here_all : (s t : ℕ) (end : EdgeRow → ℤ) (k : ℤ) (rows : List EdgeRow) → (s == t) ≡ true → ending s t end k rows ≡ ending_by_key end k rows
+here_all s t end k rows e = ap (λ b. map edge_key (filter (λ e. b && int_eq (end e) k) rows)) e
+
+elsewhere_none : (s t : ℕ) (end : EdgeRow → ℤ) (k : ℤ) (rows : List EdgeRow) → (s == t) ≡ false → ending s t end k rows ≡ []
+elsewhere_none s t end k rows e =
+    ap (λ b. map edge_key (filter (λ e. b && int_eq (end e) k) rows)) e ∙ ap (map edge_key) (none_passes (λ e. false) rows (λ i d h. refl))
+
 -- edges that have an end each in table s, and a vertex of table t
 module _ (g : GraphData) (t place : ℕ) (k : ℤ) (s : ℕ) (end : EdgeRow → ℤ) (rows : List EdgeRow) (is : IsGraph g) (there : slice_get (vertex_keys_at g t) place ≡ Some k) (all : (i : ℕ) (d : EdgeRow) → i < length rows → has_vertex_in (end (get_or rows i d)) (rows_at g.vertices s) ≡ true) where
-  -- in another table than the vertex's no edge has the key
-  elsewhere : (s ≡ t → ⊥) → map edge_key (filter (λ e. int_eq (end e) k) rows) ≡ []
-  elsewhere apart =
+  row_keys : (b : Bool) → (s == t) ≡ b → keys_at (map edge_key rows) (if s == t then places_of (map (λ e. place_in (rows_at g.vertices s) (end e)) rows) place else []) ≡ ending s t end k rows
+  row_keys true e =
+      let same = same_number s t e in
+      let once : count_in vertex_key k (rows_at g.vertices s) ≤ 1 = once_in g.schema.keys vertex_key g.vertices is.vertex_keys k s in
+      let here : Stands (rows_at g.vertices s) place k = stands _ place k (ap (λ u. slice_get (vertex_keys_at g u) place) same ∙ there) in
+      ap (λ b. keys_at (map edge_key rows) (if b then places_of (map (λ e. place_in (rows_at g.vertices s) (end e)) rows) place else [])) e
+      ∙ (picked (map edge_key rows) (λ e. place_in (rows_at g.vertices s) (end e)) (λ e. int_eq (end e) k) place 0 rows
+      (λ j h. let zero_on : 0 + j ≡ j = omega arith in ap (λ n. get_or (map edge_key rows) n (pos 0)) zero_on)
+      (λ i d h. end_test (rows_at g.vertices s) place k (end (get_or rows i d)) here once (all i d h))
+      ∙ sym (here_all s t end k rows e))
+  row_keys false e =
+      ap (λ b. keys_at (map edge_key rows) (if b then places_of (map (λ e. place_in (rows_at g.vertices s) (end e)) rows) place else [])) e
+      ∙ sym (elsewhere_none s t end k rows e)
+
+  -- where keys differ over all tables, no edge has the key in another table than the vertex's
+  elsewhere : key_count vertex_key k g.vertices ≤ 1 → (s ≡ t → ⊥) → ending_by_key end k rows ≡ []
+  elsewhere once apart =
       ap (map edge_key) (none_passes (λ e. int_eq (end e) k) rows
       (λ i d h. fails _ (λ e.
       let same : end (get_or rows i d) ≡ k = (Decides-int_eq _ k).0 e in
-      apart (one_table (λ (r : VertexRow). int_eq r.key k) g.vertices s t (is.vertex_keys k)
+      apart (one_table (λ (r : VertexRow). int_eq r.key k) g.vertices s t once
       (subst (λ z. has_vertex_in z (rows_at g.vertices s) ≡ true) same (all i d h))
       (has_key (rows_at g.vertices t) place k (stands _ place k there))))))
 
-  row_keys : (b : Bool) → (s == t) ≡ b → keys_at (map edge_key rows) (if s == t then places_of (map (λ e. place_in (rows_at g.vertices s) (end e)) rows) place else []) ≡ map edge_key (filter (λ e. int_eq (end e) k) rows)
-  row_keys true e =
-      let same = same_number s t e in
-      let once : count_in vertex_key k (rows_at g.vertices s) ≤ 1 = omega (arith, is.vertex_keys k, rows_within (λ (rs : List VertexRow). count_in vertex_key k rs) g.vertices s refl) in
-      let here : Stands (rows_at g.vertices s) place k = stands _ place k (ap (λ u. slice_get (vertex_keys_at g u) place) same ∙ there) in
-      ap (λ b. keys_at (map edge_key rows) (if b then places_of (map (λ e. place_in (rows_at g.vertices s) (end e)) rows) place else [])) e
-      ∙ picked (map edge_key rows) (λ e. place_in (rows_at g.vertices s) (end e)) (λ e. int_eq (end e) k) place 0 rows
-      (λ j h. let zero_on : 0 + j ≡ j = omega arith in ap (λ n. get_or (map edge_key rows) n (pos 0)) zero_on)
-      (λ i d h. end_test (rows_at g.vertices s) place k (end (get_or rows i d)) here once (all i d h))
-  row_keys false e =
-      ap (λ b. keys_at (map edge_key rows) (if b then places_of (map (λ e. place_in (rows_at g.vertices s) (end e)) rows) place else [])) e
-      ∙ sym (elsewhere (λ same. let yes = number_same s t same in let never : true ≡ false = sym yes ∙ e in cc))
+  by_key : key_count vertex_key k g.vertices ≤ 1 → (b : Bool) → (s == t) ≡ b → ending s t end k rows ≡ ending_by_key end k rows
+  by_key once true e = here_all s t end k rows e
+  by_key once false e =
+      elsewhere_none s t end k rows e ∙ sym (elsewhere once (λ same. let yes = number_same s t same in let never : true ≡ false = sym yes ∙ e in cc))
 
 -- ---- the edges of a table that leave a vertex, and those that enter it
 
-module _ (g : GraphData) (t place : ℕ) (k : ℤ) (e : ℕ) (is : IsGraph g) (there : slice_get (vertex_keys_at g t) place ≡ Some k) where
-  pub leaving_listed : keys_at (edge_keys_at g e) (out_places g t place e) ≡ leaving (rows_at g.edges e) k
-  leaving_listed =
+pub none_leaves : (g : GraphData) (t : ℕ) (k : ℤ) (e : ℕ) → (source_at g.schema e ≡ t → ⊥) → leaving_in g t k e ≡ []
+none_leaves g t k e apart =
+    elsewhere_none (source_at g.schema e) t (λ (r : EdgeRow). r.source) k (rows_at g.edges e) (fails _ (λ yes. apart (same_number (source_at g.schema e) t yes)))
+
+pub none_enters : (g : GraphData) (t : ℕ) (k : ℤ) (e : ℕ) → (destination_at g.schema e ≡ t → ⊥) → entering_in g t k e ≡ []
+none_enters g t k e apart =
+    elsewhere_none (destination_at g.schema e) t (λ (r : EdgeRow). r.destination) k (rows_at g.edges e) (fails _ (λ yes. apart (same_number (destination_at g.schema e) t yes)))
+
+module _ (g : GraphData) (t place : ℕ) (k : ℤ) (is : IsGraph g) (there : slice_get (vertex_keys_at g t) place ≡ Some k) where
+  pub leaving_listed : (e : ℕ) → keys_at (edge_keys_at g e) (out_places g t place e) ≡ leaving_in g t k e
+  leaving_listed e =
       row_keys g t place k (source_at g.schema e) (λ (r : EdgeRow). r.source) (rows_at g.edges e) is there (λ i d h. (ends_stand g e is i d h).source) _ refl
 
-  pub entering_listed : keys_at (edge_keys_at g e) (in_places g t place e) ≡ entering (rows_at g.edges e) k
-  entering_listed =
+  pub entering_listed : (e : ℕ) → keys_at (edge_keys_at g e) (in_places g t place e) ≡ entering_in g t k e
+  entering_listed e =
       row_keys g t place k (destination_at g.schema e) (λ (r : EdgeRow). r.destination) (rows_at g.edges e) is there (λ i d h. (ends_stand g e is i d h).destination) _ refl
 
-  pub none_leaves : (source_at g.schema e ≡ t → ⊥) → leaving (rows_at g.edges e) k ≡ []
-  none_leaves =
-      elsewhere g t place k (source_at g.schema e) (λ (r : EdgeRow). r.source) (rows_at g.edges e) is there (λ i d h. (ends_stand g e is i d h).source)
+  -- where keys differ over all tables, the key alone tells them
+  differ : g.schema.keys ≡ Whole → key_count vertex_key k g.vertices ≤ 1
+  differ whole = subst (λ keys. AreDistinct keys vertex_key g.vertices) whole is.vertex_keys k
 
-  pub none_enters : (destination_at g.schema e ≡ t → ⊥) → entering (rows_at g.edges e) k ≡ []
-  none_enters =
-      elsewhere g t place k (destination_at g.schema e) (λ (r : EdgeRow). r.destination) (rows_at g.edges e) is there (λ i d h. (ends_stand g e is i d h).destination)
+  leaving_by_key : g.schema.keys ≡ Whole → (e : ℕ) → leaving_in g t k e ≡ ending_by_key (λ (r : EdgeRow). r.source) k (rows_at g.edges e)
+  leaving_by_key whole e =
+      by_key g t place k (source_at g.schema e) (λ (r : EdgeRow). r.source) (rows_at g.edges e) is there (λ i d h. (ends_stand g e is i d h).source) (differ whole) _ refl
+
+  entering_by_key : g.schema.keys ≡ Whole → (e : ℕ) → entering_in g t k e ≡ ending_by_key (λ (r : EdgeRow). r.destination) k (rows_at g.edges e)
+  entering_by_key whole e =
+      by_key g t place k (destination_at g.schema e) (λ (r : EdgeRow). r.destination) (rows_at g.edges e) is there (λ i d h. (ends_stand g e is i d h).destination) (differ whole) _ refl
+
+  pub all_leaving : g.schema.keys ≡ Whole → leaving g t k ≡ ending_by_key (λ (r : EdgeRow). r.source) k (all_edges g)
+  all_leaving whole =
+      ap (λ n. flat_map (leaving_in g t k) (range_with_len 0 n)) (AllZip-length _ _ _ is.edges)
+      ∙ picked_tables (λ (r : EdgeRow). int_eq r.source k) (leaving_in g t k) g.edges 0 (λ i e same. leaving_by_key whole e ∙ ap (λ n. ending_by_key (λ (r : EdgeRow). r.source) k (rows_at g.edges n)) (let on : e ≡ i = omega (arith, same) in on))
+
+  pub all_entering : g.schema.keys ≡ Whole → entering g t k ≡ ending_by_key (λ (r : EdgeRow). r.destination) k (all_edges g)
+  all_entering whole =
+      ap (λ n. flat_map (entering_in g t k) (range_with_len 0 n)) (AllZip-length _ _ _ is.edges)
+      ∙ picked_tables (λ (r : EdgeRow). int_eq r.destination k) (entering_in g t k) g.edges 0 (λ i e same. entering_by_key whole e ∙ ap (λ n. ending_by_key (λ (r : EdgeRow). r.destination) k (rows_at g.edges n)) (let on : e ≡ i = omega (arith, same) in on))
 
 -- ---- places of a row are places of edges
 

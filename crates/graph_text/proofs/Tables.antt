@@ -1,14 +1,13 @@
 -- lists of tables and of their rows
-use Rattle.std.proofs.Common.{◌≡◌, ℕ, ℤ, ◌+◌, ◌<◌, List, [], ◌∷◌, ◌++◌, length, take, get_or, map, refl, ap, sym, ◌∙◌, arith, append_assoc}
-use Rattle.std.specs.List.{flat_map}
-use Rattle.std.specs.Ordering.{int_eq}
+use Rattle.std.proofs.Common.{◌≡◌, ℕ, zero, suc, ℤ, ◌+◌, ◌<◌, Bool, List, [], ◌∷◌, ◌++◌, length, take, get_or, map, refl, ap, sym, ◌∙◌, arith, append_assoc}
+use Rattle.std.specs.List.{enumerate_from, filter, flat_map, range_with_len}
 use Rattle.std.proofs.lemmas.List.{append-nil, take_more, length-take-le, map-append}
 use Rattle.std.proofs.lemmas.List.Concat.{flat_map-append}
 use Rattle.std.proofs.lemmas.List.Elements.{filter-append}
+use Rattle.std.proofs.lemmas.List.FromFn.{length-enumerate_from, get_or-enumerate_from}
 use Rattle.graph_model.specs.declared.row.EdgeRow.{EdgeRow}
 use Rattle.graph_model.specs.Keys.{rows_at}
 use Rattle.graph_model.specs.Graph.{edge_key}
-use Rattle.graph_text.specs.Ends.{all_edges, leaving, entering}
 use Rattle.graph_text.specs.Text.{by_tables}
 
 -- ---- lines
@@ -35,24 +34,34 @@ more_lines line ts tables i t old out new h is_t so_far step =
     ∙ ap (λ u. old ++ (before ++ flat_map (line u) (rows_at tables i))) is_t
     ∙ ap (λ x. old ++ x) (sym (by_tables_more line ts tables i t h))
 
+-- the lines of one more table, which are told by its place and its shape
+pub more_numbered_lines : {T R : Type 0} (line : ℕ × T → R → List ℕ) (ts : List T) (tables : List (List R)) (i : ℕ) (t : T) (old out new : List ℕ) → i < length ts → t ≡ get_or ts i t → out ≡ old ++ by_tables line (take i (enumerate_from 0 ts)) tables → new ≡ out ++ flat_map (line (i, t)) (rows_at tables i) → new ≡ old ++ by_tables line (take (i + 1) (enumerate_from 0 ts)) tables
+more_numbered_lines {T} {R} line ts tables i t old out new h is_t so_far step =
+    let within : i < length (enumerate_from 0 ts) = omega (arith, length-enumerate_from 0 ts) in
+    let on : i ≡ 0 + i = omega arith in
+    let is : (i, t) ≡ get_or (enumerate_from 0 ts) i (i, t) = ap {B = ℕ × T} (λ u. (i, u)) is_t ∙ ap {B = ℕ × T} (λ n. (n, get_or ts i t)) on ∙ sym (get_or-enumerate_from 0 ts i (i, t) h) in
+    more_lines line (enumerate_from 0 ts) tables i (i, t) old out new within is so_far step
+
 -- ---- edges
 
-all_edges_more : (tables : List (List EdgeRow)) (i : ℕ) → i < length tables → all_edges (take (i + 1) tables) ≡ all_edges (take i tables) ++ rows_at tables i
-all_edges_more tables i h =
-    ap all_edges (take_more tables i [] h) ∙ flat_map-append (λ (rows : List EdgeRow). rows) (take i tables) (rows_at tables i ∷ [])
-    ∙ ap (λ rows. all_edges (take i tables) ++ rows) (append-nil (rows_at tables i))
+last : (a n j : ℕ) → a + n ≡ j → range_with_len a (suc n) ≡ range_with_len a n ++ j ∷ []
+last a zero j e = let same : a ≡ j = omega (arith, e) in ap (λ m. m ∷ []) same
+last a (suc n) j e = ap (λ l. a ∷ l) (last (a + 1) n j (omega (arith, e)))
 
-leaving_append : (es fs : List EdgeRow) (k : ℤ) → leaving (es ++ fs) k ≡ leaving es k ++ leaving fs k
-leaving_append es fs k =
-    ap (map edge_key) (filter-append (λ (e : EdgeRow). int_eq e.source k) es fs) ∙ map-append edge_key _ _
+-- what one more table gives
+pub one_more_table : (f : ℕ → List ℤ) (n : ℕ) → flat_map f (range_with_len 0 (n + 1)) ≡ flat_map f (range_with_len 0 n) ++ f n
+one_more_table f n =
+    let on : n + 1 ≡ suc n = omega arith in
+    ap (λ m. flat_map f (range_with_len 0 m)) on ∙ ap (flat_map f) (last 0 n n (omega arith)) ∙ flat_map-append f (range_with_len 0 n) (n ∷ [])
+    ∙ ap (λ x. flat_map f (range_with_len 0 n) ++ x) (append-nil (f n))
 
-entering_append : (es fs : List EdgeRow) (k : ℤ) → entering (es ++ fs) k ≡ entering es k ++ entering fs k
-entering_append es fs k =
-    ap (map edge_key) (filter-append (λ (e : EdgeRow). int_eq e.destination k) es fs) ∙ map-append edge_key _ _
+picked_append : (p : EdgeRow → Bool) (es fs : List EdgeRow) → map edge_key (filter p (es ++ fs)) ≡ map edge_key (filter p es) ++ map edge_key (filter p fs)
+picked_append p es fs = ap (map edge_key) (filter-append p es fs) ∙ map-append edge_key _ _
 
--- the edges at a vertex among those of one more table
-pub leaving_more : (tables : List (List EdgeRow)) (i : ℕ) (k : ℤ) → i < length tables → leaving (all_edges (take (i + 1) tables)) k ≡ leaving (all_edges (take i tables)) k ++ leaving (rows_at tables i) k
-leaving_more tables i k h = ap (λ es. leaving es k) (all_edges_more tables i h) ∙ leaving_append (all_edges (take i tables)) (rows_at tables i) k
-
-pub entering_more : (tables : List (List EdgeRow)) (i : ℕ) (k : ℤ) → i < length tables → entering (all_edges (take (i + 1) tables)) k ≡ entering (all_edges (take i tables)) k ++ entering (rows_at tables i) k
-entering_more tables i k h = ap (λ es. entering es k) (all_edges_more tables i h) ∙ entering_append (all_edges (take i tables)) (rows_at tables i) k
+-- what tables give one after another, where each gives the keys of its edges that pass a test
+pub picked_tables : (p : EdgeRow → Bool) (f : ℕ → List ℤ) (tables : List (List EdgeRow)) (first : ℕ) → ((i e : ℕ) → e ≡ first + i → f e ≡ map edge_key (filter p (rows_at tables i))) → flat_map f (range_with_len first (length tables)) ≡ map edge_key (filter p (flat_map (λ rows. rows) tables))
+picked_tables p f [] first gives = refl
+picked_tables p f (rows ∷ tables) first gives =
+    ap (λ x. x ++ flat_map f (range_with_len (first + 1) (length tables))) (gives 0 first (omega arith))
+    ∙ ap (λ x. map edge_key (filter p rows) ++ x) (picked_tables p f tables (first + 1) (λ i e at. gives (suc i) e (omega (arith, at))))
+    ∙ sym (picked_append p rows (flat_map (λ rows. rows) tables))

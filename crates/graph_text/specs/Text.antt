@@ -1,6 +1,6 @@
 -- The text of a graph.
 use Rattle.std.specs.Prelude.{ℕ, ℤ, List, [], ◌∷◌, ◌++◌, codes}
-use Rattle.std.specs.List.{flat_map}
+use Rattle.std.specs.List.{flat_map, enumerate_from}
 use Rattle.std.specs.Fmt.{decimal, signed_decimal}
 use Rattle.column_types.specs.declared.value.Value.{Value}
 use Rattle.column_types.specs.Printing.{printed}
@@ -9,7 +9,7 @@ use Rattle.graph_schema.specs.declared.schema.EdgeTable.{EdgeTable}
 use Rattle.graph_model.specs.declared.row.VertexRow.{VertexRow}
 use Rattle.graph_model.specs.declared.row.EdgeRow.{EdgeRow}
 use Rattle.graph_model.specs.Graph.{GraphData, vertex_total, edge_total}
-use Rattle.graph_text.specs.Ends.{all_edges, leaving, entering}
+use Rattle.graph_text.specs.Ends.{leaving, entering}
 
 -- a number, with one space before it
 abbrev pub spaced_number : ℤ → List ℕ
@@ -37,14 +37,15 @@ edge_line table e =
 abbrev pub keys_line : List ℕ → VertexTable → ℤ → List ℤ → List ℕ
 keys_line word table key edges = heading word table.name key ++ codes ":" ++ flat_map spaced_number edges ++ codes "\n"
 
--- the two lines of the vertex of a key: the edges that leave it, and those that enter it
-abbrev pub two_lines : GraphData → VertexTable → ℤ → List ℕ
+-- the two lines of the vertex of a key of a vertex table, told by its place and its shape: the edges that leave the vertex, and
+-- those that enter it
+abbrev pub two_lines : GraphData → ℕ × VertexTable → ℤ → List ℕ
 two_lines g table key =
-    keys_line (codes "out") table key (leaving (all_edges g.edges) key)
-    ++ keys_line (codes "in") table key (entering (all_edges g.edges) key)
+    keys_line (codes "out") table.1 key (leaving g table.0 key)
+    ++ keys_line (codes "in") table.1 key (entering g table.0 key)
 
 -- the same of a vertex
-abbrev pub ends_of_vertex : GraphData → VertexTable → VertexRow → List ℕ
+abbrev pub ends_of_vertex : GraphData → ℕ × VertexTable → VertexRow → List ℕ
 ends_of_vertex g table v = two_lines g table v.key
 
 -- the lines of all rows, by tables and then by places in the table; each is told by its table and itself
@@ -63,4 +64,4 @@ text_of g =
     count_line g
     ++ by_tables vertex_line g.schema.vertices g.vertices
     ++ by_tables edge_line g.schema.edges g.edges
-    ++ by_tables (ends_of_vertex g) g.schema.vertices g.vertices
+    ++ by_tables (ends_of_vertex g) (enumerate_from 0 g.schema.vertices) g.vertices

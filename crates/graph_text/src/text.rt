@@ -1,6 +1,6 @@
 //! The text of a graph.
 ghost use Rattle.std.specs.Prelude.{◌≡◌, ◌<◌, ◌++◌, IfOk, OnOk, length};
-ghost use Rattle.std.specs.List.{flat_map};
+ghost use Rattle.std.specs.List.{flat_map, enumerate_from};
 ghost use Rattle.graph_model.specs.Keys.{rows_at};
 ghost use Rattle.graph_text.specs.Text.{vertex_line, edge_line, ends_of_vertex, by_tables, count_line, text_of};
 
@@ -97,7 +97,7 @@ fn push_edge_rows(
 
 /// Appends for each vertex the lines of the edges at it.
 fn push_ends(out: &mut Text, on: &Snapshot) -> Result<(), NoMemory>
-    ensures { OnOk result (out.new ≡ out.old ++ by_tables (ends_of_vertex on.now) on.now.schema.vertices on.now.vertices) }
+    ensures { OnOk result (out.new ≡ out.old ++ by_tables (ends_of_vertex on.now) (enumerate_from 0 on.now.schema.vertices) on.now.vertices) }
 {
     on.sound();
     for (table, shape) in on.schema().vertices().iter().enumerate() {
@@ -113,7 +113,7 @@ fn push_table_ends(
     shape: &VertexTable,
 ) -> Result<(), NoMemory>
     requires { table < length on.now.schema.vertices }
-    ensures { OnOk result (out.new ≡ out.old ++ flat_map (ends_of_vertex on.now shape.now) (rows_at on.now.vertices table)) }
+    ensures { OnOk result (out.new ≡ out.old ++ flat_map (ends_of_vertex on.now (table, shape.now)) (rows_at on.now.vertices table)) }
 {
     for place in 0..on.vertex_count(table) {
         let at = VertexAt { table, place };

@@ -2,7 +2,7 @@
 ghost use Rattle.std.specs.Prelude.{◌≡◌, ◌<◌, ◌++◌, All, OnOk, length, slice_get, Some, codes};
 ghost use Rattle.std.specs.List.{flat_map};
 ghost use Rattle.graph_snap.specs.Reading.{vertex_keys_at};
-ghost use Rattle.graph_text.specs.Ends.{all_edges, leaving, entering, keys_at};
+ghost use Rattle.graph_text.specs.Ends.{leaving, entering, keys_at};
 ghost use Rattle.graph_text.specs.Text.{spaced_number, keys_line, two_lines};
 
 use crate::laws::rows_list_the_edges_of_a_key;
@@ -25,7 +25,7 @@ fn push_keys(out: &mut Text, keys: &[i64], places: &[u32]) -> Result<(), NoMemor
 /// Appends the keys of the edges that leave a vertex, whose key is given, a space before each.
 fn push_leaving(out: &mut Text, on: &Snapshot, at: VertexAt, key: i64) -> Result<(), NoMemory>
     requires { slice_get (vertex_keys_at on.now at.table) at.place ≡ Some key }
-    ensures { OnOk result (out.new ≡ out.old ++ flat_map spaced_number (leaving (all_edges on.now.edges) key)) }
+    ensures { OnOk result (out.new ≡ out.old ++ flat_map spaced_number (leaving on.now at.table key)) }
 {
     on.sound();
     for table in 0..on.schema().edges().len() as u32 {
@@ -38,7 +38,7 @@ fn push_leaving(out: &mut Text, on: &Snapshot, at: VertexAt, key: i64) -> Result
 /// Appends the keys of the edges that enter a vertex, whose key is given, a space before each.
 fn push_entering(out: &mut Text, on: &Snapshot, at: VertexAt, key: i64) -> Result<(), NoMemory>
     requires { slice_get (vertex_keys_at on.now at.table) at.place ≡ Some key }
-    ensures { OnOk result (out.new ≡ out.old ++ flat_map spaced_number (entering (all_edges on.now.edges) key)) }
+    ensures { OnOk result (out.new ≡ out.old ++ flat_map spaced_number (entering on.now at.table key)) }
 {
     on.sound();
     for table in 0..on.schema().edges().len() as u32 {
@@ -57,7 +57,7 @@ fn push_out_line(
     shape: &VertexTable,
 ) -> Result<(), NoMemory>
     requires { slice_get (vertex_keys_at on.now at.table) at.place ≡ Some key }
-    ensures { OnOk result (out.new ≡ out.old ++ keys_line (codes "out") shape.now key (leaving (all_edges on.now.edges) key)) }
+    ensures { OnOk result (out.new ≡ out.old ++ keys_line (codes "out") shape.now key (leaving on.now at.table key)) }
 {
     push_heading(out, "out", &shape.name, key)?;
     out.push(":")?;
@@ -74,7 +74,7 @@ fn push_in_line(
     shape: &VertexTable,
 ) -> Result<(), NoMemory>
     requires { slice_get (vertex_keys_at on.now at.table) at.place ≡ Some key }
-    ensures { OnOk result (out.new ≡ out.old ++ keys_line (codes "in") shape.now key (entering (all_edges on.now.edges) key)) }
+    ensures { OnOk result (out.new ≡ out.old ++ keys_line (codes "in") shape.now key (entering on.now at.table key)) }
 {
     push_heading(out, "in", &shape.name, key)?;
     out.push(":")?;
@@ -91,7 +91,7 @@ pub fn push_two_lines(
     shape: &VertexTable,
 ) -> Result<(), NoMemory>
     requires { slice_get (vertex_keys_at on.now at.table) at.place ≡ Some key }
-    ensures { OnOk result (out.new ≡ out.old ++ two_lines on.now shape.now key) }
+    ensures { OnOk result (out.new ≡ out.old ++ two_lines on.now (at.table, shape.now) key) }
 {
     push_out_line(out, on, at, key, shape)?;
     push_in_line(out, on, at, key, shape)

@@ -4,7 +4,5 @@ pub mod Statuses
 pub mod Answered
 pub mod Names
 pub mod Scripts
-pub mod Kept
-pub mod Opens
 pub mod Dues
 pub mod FewCommands

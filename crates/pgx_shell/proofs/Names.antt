@@ -7,7 +7,7 @@ use Rattle.graph_model.proofs.Rows.{count_cons}
 use Rattle.catalogue.specs.Bound.{NamesDiffer}
 use Rattle.catalogue.specs.declared.parts.SourceData.{SourceData}
 use Rattle.script_read.specs.declared.script.SourceText.{SourceText}
-use Rattle.pgx_shell.specs.Opening.{names_of, opened_names}
+use Rattle.source_open.specs.Opening.{names_of, opened_names}
 
 module _ (n : List ℕ) where
   abbrev is_named : List ℕ → Bool

@@ -3,7 +3,7 @@ use Rattle.std.specs.Prelude.{◌≡◌, ℕ, List, Option, Err, IfSome, ⊤}
 use Rattle.pgx_io.specs.Files.{Files}
 use Rattle.pgx_io.specs.Whole.{AppendsFront}
 use Rattle.pgx_shell.specs.Due.{script_due, IsStopDue}
-use Rattle.pgx_shell.specs.Opening.{HasNumber}
+use Rattle.source_open.specs.Opening.{HasNumber}
 use Rattle.pgx_shell.specs.Texts.{Outcome}
 use Rattle.pgx_shell.specs.declared.stop.Stop.{Stop}
 use Rattle.pgx_shell.specs.declared.stop.Stop.TheVariants.{TooLong, BadLine, NoFile, BadConfig, BadTable, ReadFault, WriteFault, NoMemory}

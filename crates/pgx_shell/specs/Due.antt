@@ -4,7 +4,9 @@ use Rattle.script_read.specs.Script.{script_of}
 use Rattle.script_read.specs.declared.script.Script.{Script}
 use Rattle.script_read.specs.declared.fault.LineWhy.{LineWhy}
 use Rattle.pgx_io.specs.Files.{Files}
-use Rattle.pgx_shell.specs.Opening.{opened, ◌>>=◌}
+use Rattle.table_loader.specs.Fault.{◌>>=◌}
+use Rattle.source_open.specs.Opening.{opened}
+use Rattle.pgx_shell.specs.Sources.{or_stop}
 use Rattle.catalogue.specs.declared.parts.SourceData.{SourceData}
 use Rattle.pgx_shell.specs.declared.stop.Stop.{Stop}
 use Rattle.pgx_shell.specs.declared.stop.Stop.TheVariants.{TooLong, BadLine}
@@ -25,7 +27,7 @@ script_due bytes = if nat_lt 16777216 (length bytes) then Err TooLong else line_
 
 -- the script with its open sources, or the first stop
 abbrev pub due : List ℕ → Files → Result Run Stop
-due bytes files = script_due bytes >>= λ script. opened files script.sources >>= λ sources. Ok (record { script = script; sources = sources })
+due bytes files = script_due bytes >>= λ script. or_stop (opened files script.sources) >>= λ sources. Ok (record { script = script; sources = sources })
 
 -- what holds of the source's bytes and the library's files, where both are told
 abbrev pub IfBoth : Option (List ℕ) → Option Files → (List ℕ → Files → Type 0) → Type 0

@@ -31,7 +31,7 @@ why_text why.End = codes "end"
 abbrev pub path_text : ℕ → List ℕ → List ℕ
 path_text number path = if number == 3 then [] else codes " " ++ path
 
--- a configuration's fault; `HasNumber` says that no stop tells want of memory here
+-- a configuration's fault; `HasNumber` says that no stop tells out of memory here
 abbrev pub config_fault_text : ConfigFault → List ℕ
 config_fault_text (config_fault.At number path) = codes "fault " ++ decimal number ++ codes " " ++ config_fault_name number ++ path_text number path
 config_fault_text config_fault.NoMemory = codes "no memory"

@@ -1,6 +1,5 @@
 pub mod FaultNames
-pub mod Opening
-pub mod Laws
+pub mod Sources
 pub mod Run
 pub mod Journal
 pub mod Due

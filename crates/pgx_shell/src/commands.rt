@@ -11,12 +11,12 @@ ghost use Rattle.pgx_shell.specs.Texts.{OnceOutcome, CheckOutcome, Wrote};
 
 use crate::Stop;
 use crate::counts::counts_text;
-use crate::open::{check_sources, open_sources};
 use crate::printing::journal;
 use crate::run::run_script;
 use column_types::Text;
 use pgx_io::{Library, ReadAllFault, Sink, Source, read_all, write_all};
 use script_read::{Script, ScriptFault, read_script};
+use source_open::{check_sources, open_sources};
 use std::alloc::Global;
 use std::thread::Threads;
 

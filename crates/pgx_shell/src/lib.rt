@@ -6,10 +6,7 @@
 
 mod commands;
 mod counts;
-mod files;
-mod laws;
 mod lines;
-mod open;
 mod printing;
 mod run;
 mod stop;
@@ -17,7 +14,6 @@ mod whole;
 mod words;
 
 pub use commands::{Done, check, once};
-pub use laws::{files_are_there_before_records_are_read, sources_open_one_by_one};
 pub use printing::journal;
 pub use stop::Stop;
 pub use whole::{Status, top};

@@ -5,7 +5,7 @@ ghost use Rattle.script_read.specs.Meaning.{IsScript};
 ghost use Rattle.session_run.specs.Own.{fresh_own};
 ghost use Rattle.session_run.specs.Turns.{worked};
 ghost use Rattle.session_run.specs.Ran.{IsAtWork};
-ghost use Rattle.pgx_shell.specs.Opening.{names_of, opened_names};
+ghost use Rattle.source_open.specs.Opening.{names_of, opened_names};
 ghost use Rattle.pgx_shell.specs.Run.{IsRunOf, only_block, HasRun};
 
 use actor_records::walk_records;

@@ -4,6 +4,7 @@ ghost use Rattle.std.specs.Prelude.{◌≡◌};
 use column_types::{NoMemory, Text};
 use graph_config::ConfigFault;
 use script_read::LineWhy;
+use source_open::SourceFault;
 use thiserror::Error;
 
 /// Why a command did not write its whole text. Its cause is told by `StopCause`, and what was written by `StopWrites`.
@@ -18,7 +19,7 @@ pub enum Stop {
     /// A configuration's file or a table's file is missing.
     #[error("no file {}", name.as_str())]
     NoFile { name: Text },
-    /// The file of this name holds no configuration. The fault has a number; it is never want of memory.
+    /// The file of this name holds no configuration. The fault has a number; it is never out of memory.
     #[error("{}: {fault}", file.as_str())]
     BadConfig { file: Text, fault: ConfigFault },
     /// The first record at fault, counted from 1 in its file, and the number of its first fault. The lines of an inline
@@ -42,5 +43,21 @@ impl From<NoMemory> for Stop {
 
     fn from(_error: NoMemory) -> Stop {
         Stop::NoMemory
+    }
+}
+
+impl From<SourceFault> for Stop {
+    ghost use Rattle.pgx_shell.specs.Sources.{source_stop};
+
+    ghost from_gives = { λ fault e. e ≡ source_stop fault };
+
+    fn from(fault: SourceFault) -> Stop {
+        match fault {
+            SourceFault::NoFile { name } => Stop::NoFile { name },
+            SourceFault::BadConfig { file, fault } => Stop::BadConfig { file, fault },
+            SourceFault::BadTable { file, row, number } => Stop::BadTable { file, row, number },
+            SourceFault::ReadFault => Stop::ReadFault,
+            SourceFault::NoMemory => Stop::NoMemory,
+        }
     }
 }

@@ -99,12 +99,12 @@ done_locally w who command reply own = record w {
   records = w.records ++ record_at w.place who (Local command reply) ∷ [];
 }
 
--- a core call ended: with a reply, or for want of memory
+-- a core call ended: with a reply, or because memory ran out
 abbrev pub CallEnds : Work → ℕ → Ask → Option Reply → Work → Type 0
 CallEnds w who ask (Some reply) v = (reply ≡ (step (now w.history) who ask).0) × (v ≡ answered w who ask reply)
 CallEnds w who ask None v = v ≡ starved w who (ask_text ask)
 
--- a local command ended: with the reply that is due, or for want of memory
+-- a local command ended: with the reply that is due, or because memory ran out
 abbrev pub LocalEnds : Work → ℕ → Command → Work → Type 0
 LocalEnds w who command v =
     let due = own_local (sources_of w) w.own w.held command in

@@ -11,8 +11,8 @@ use Rattle.graph_model.specs.declared.change.Change.{Change}
 use Rattle.graph_model.specs.declared.change.Change.TheVariants.{InsertVertex, InsertEdge}
 use Rattle.graph_model.specs.declared.change.Why.{Why}
 use Rattle.graph_model.specs.declared.change.Why.TheVariants.{Table, Count, Prop as NoProp, Kind, KeyTaken, KeyMissing, EndMissing, HasEdges, Limit}
-use Rattle.graph_model.specs.Keys.{rows_at}
-use Rattle.graph_model.specs.Graph.{GraphData, kinds_fit, vertex_props_at, edge_props_at, source_at, destination_at, has_vertex, has_vertex_in, has_edge, vertex_total, edge_total, cell_total, most_vertices, most_edges, most_cells}
+use Rattle.graph_model.specs.Keys.{rows_at, is_taken}
+use Rattle.graph_model.specs.Graph.{GraphData, kinds_fit, vertex_props_at, edge_props_at, source_at, destination_at, has_vertex_in, vertex_key, edge_key, vertex_total, edge_total, cell_total, most_vertices, most_edges, most_cells}
 use Rattle.graph_model.specs.Change.{misfit, changed}
 use Rattle.table_loader.specs.Fault.{◌>>=◌}
 use Rattle.table_loader.specs.Record.{or_fault, fields_checked, key_at, values_of, values_from, vertex_of, edge_of}
@@ -47,7 +47,7 @@ vertex_cause g t k vs why table count kinds so =
     let b : not (length vs == length (vertex_props_at g.schema t)) ≡ false = grind (arith, nat_tests) in
     let c : not (kinds_fit (vertex_props_at g.schema t) vs) ≡ false = ap (λ x. not x) kinds in
     let rest = skip _ Kind _ why c (skip _ Count _ why b (skip _ Table _ why a so)) in
-    two_or (has_vertex k g.vertices) (nat_lt most_vertices (vertex_total g + 1) || nat_lt most_cells (cell_total g + length vs)) why rest
+    two_or (is_taken g.schema.keys vertex_key k g.vertices t) (nat_lt most_vertices (vertex_total g + 1) || nat_lt most_cells (cell_total g + length vs)) why rest
 
 edge_cause : (g : GraphData) (t : ℕ) (k s d : ℤ) (vs : List Value) (why : Why) → t < length g.schema.edges → length vs ≡ length (edge_props_at g.schema t) → kinds_fit (edge_props_at g.schema t) vs ≡ true
     → misfit g (InsertEdge t k s d vs) ≡ Some why → IsRowCause why
@@ -56,7 +56,7 @@ edge_cause g t k s d vs why table count kinds so =
     let b : not (length vs == length (edge_props_at g.schema t)) ≡ false = grind (arith, nat_tests) in
     let c : not (kinds_fit (edge_props_at g.schema t) vs) ≡ false = ap (λ x. not x) kinds in
     let rest = skip _ Kind _ why c (skip _ Count _ why b (skip _ Table _ why a so)) in
-    three_or (has_edge k g.edges)
+    three_or (is_taken g.schema.keys edge_key k g.edges t)
     (not (has_vertex_in s (rows_at g.vertices (source_at g.schema t))) || not (has_vertex_in d (rows_at g.vertices (destination_at g.schema t))))
     (nat_lt most_edges (edge_total g + 1) || nat_lt most_cells (cell_total g + length vs)) why rest
 

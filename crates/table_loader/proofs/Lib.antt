@@ -3,7 +3,6 @@ pub mod Reader
 pub mod Putting
 pub mod Fields
 pub mod Growing
-pub mod Fitting
 pub mod Standing
 pub mod First
 pub mod Lines

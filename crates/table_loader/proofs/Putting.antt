@@ -50,20 +50,22 @@ items_end f file row g whole xs i past so = sym so ∙ ap (λ ys. put_all file r
 
 -- ---- files
 
-pub file_fits : (s : SchemaData) (file : ℕ) (g h : GraphData) (whole : Result GraphData LoadFault) (xs : List (List ℕ)) (i : ℕ) (x d : List ℕ)
-    → i < length xs → x ≡ get_or xs i d → put_files s file g (drop i xs) ≡ whole → put_file s file g x ≡ Ok h → put_files s (file + 1) h (drop (i + 1) xs) ≡ whole
+-- a file without a fault: the others are put behind it
+pub file_fits : (s : SchemaData) (file : ℕ) (g h : GraphData) (whole : Result GraphData LoadFault) (rest later : List (List ℕ)) (bytes : List ℕ)
+    → rest ≡ bytes ∷ later → put_files s file g rest ≡ whole → put_file s file g bytes ≡ Ok h → put_files s (file + 1) h later ≡ whole
 unfolding put_files
-file_fits s file g h whole xs i x d within is so this =
-    sym (ap (λ r. r >>= (λ k. put_files s (file + 1) k (drop (i + 1) xs))) this) ∙ sym (ap (put_files s file g) (here xs i x d within is)) ∙ so
+file_fits s file g h whole rest later bytes is so this =
+    sym (ap (λ r. r >>= (λ k. put_files s (file + 1) k later)) this) ∙ sym (ap (put_files s file g) is) ∙ so
 
-pub file_stops : (s : SchemaData) (file : ℕ) (g : GraphData) (whole : Result GraphData LoadFault) (xs : List (List ℕ)) (i : ℕ) (x d : List ℕ) (fault : LoadFault)
-    → i < length xs → x ≡ get_or xs i d → LoadCause (put_file s file g x) fault → put_files s file g (drop i xs) ≡ whole → LoadCause whole fault
+-- a file with a fault decides
+pub file_stops : (s : SchemaData) (file : ℕ) (g : GraphData) (whole : Result GraphData LoadFault) (rest later : List (List ℕ)) (bytes : List ℕ) (fault : LoadFault)
+    → rest ≡ bytes ∷ later → put_files s file g rest ≡ whole → LoadCause (put_file s file g bytes) fault → LoadCause whole fault
 unfolding put_files
-file_stops s file g whole xs i x d (load.Bad f r n) within is this so =
-    sym so ∙ ap (put_files s file g) (here xs i x d within is) ∙ ap (λ r. r >>= (λ k. put_files s (file + 1) k (drop (i + 1) xs))) this
-file_stops s file g whole xs i x d load.NoMemory within is this so = tt
+file_stops s file g whole rest later bytes (load.Bad f r n) is so this =
+    sym so ∙ ap (put_files s file g) is ∙ ap (λ r. r >>= (λ k. put_files s (file + 1) k later)) this
+file_stops s file g whole rest later bytes load.NoMemory is so this = tt
 
-pub files_end : (s : SchemaData) (file : ℕ) (g : GraphData) (whole : Result GraphData LoadFault) (xs : List (List ℕ)) (i : ℕ)
-    → length xs ≤ i → put_files s file g (drop i xs) ≡ whole → whole ≡ Ok g
+pub files_end : (s : SchemaData) (file : ℕ) (g : GraphData) (whole : Result GraphData LoadFault) (rest : List (List ℕ))
+    → rest ≡ [] → put_files s file g rest ≡ whole → whole ≡ Ok g
 unfolding put_files
-files_end s file g whole xs i past so = sym so ∙ ap (put_files s file g) (drop_all i xs past)
+files_end s file g whole rest is so = sym so ∙ ap (put_files s file g) is

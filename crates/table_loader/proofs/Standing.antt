@@ -1,43 +1,20 @@
 -- Table files stand for a graph exactly where their rows are one.
-use Rattle.std.proofs.Common.{◌≡◌, ◌∙◌, refl, sym, ap, subst, ℕ, ◌+◌, ◌-◌, true, false, nat_lt, List, [], ◌∷◌, ◌++◌, length, drop, replicate, set, get_or, slice_get, Some, Ok, arith, length-append, length-drop}
+use Rattle.std.proofs.Common.{◌≡◌, ◌∙◌, refl, sym, ap, subst, ℕ, ◌+◌, ◌-◌, true, false, nat_lt, List, [], ◌∷◌, ◌++◌, length, drop, replicate, slice_get, Some, Ok, arith, length-append, length-drop}
 use Rattle.std.proofs.lemmas.Bool.Decides.{nat_tests}
 use Rattle.std.proofs.lemmas.List.{drop_all}
 use Rattle.graph_schema.specs.declared.schema.VertexTable.{VertexTable}
 use Rattle.graph_schema.specs.declared.schema.EdgeTable.{EdgeTable}
 use Rattle.graph_schema.specs.Schema.{SchemaData}
-use Rattle.graph_model.specs.declared.row.VertexRow.{VertexRow}
 use Rattle.graph_model.specs.declared.row.EdgeRow.{EdgeRow}
-use Rattle.graph_model.specs.declared.change.Change.{Change}
-use Rattle.graph_model.specs.declared.change.Change.TheVariants.{InsertVertex, InsertEdge}
 use Rattle.graph_model.specs.Graph.{GraphData, IsGraph, empty_graph, vertex_props_at, edge_props_at, vertex_table_props, edge_table_props}
-use Rattle.graph_model.specs.Change.{changed}
+use Rattle.graph_model.specs.FromRows.{vertex_put, edge_put}
 use Rattle.graph_model.proofs.Graphs.{empty_is_graph}
+use Rattle.graph_model.proofs.Fitting.{graph_of, vertex_fits, edge_fits, vertex_push, edge_push}
 use Rattle.table_loader.specs.Fault.{◌>>=◌}
 use Rattle.table_loader.specs.Record.{vertex_of, edge_of}
 use Rattle.table_loader.specs.Tables.{vertex_change, edge_change, file_change, put_files, tables_of}
 use Rattle.table_loader.specs.Law.{HasRowsOf, TablesStandForAGraph}
 use Rattle.table_loader.proofs.Growing.{again, same_ok, files_keep, files_read, files_put}
-use Rattle.table_loader.proofs.Fitting.{graph_of, vertex_fits, edge_fits}
-
--- ---- a row at the end of a table
-
-push_at : {R : Type 0} (done todo : List (List R)) (rows : List R) (r : R) → set (done ++ rows ∷ todo) (length done) (get_or (done ++ rows ∷ todo) (length done) [] ++ r ∷ []) ≡ done ++ (rows ++ r ∷ []) ∷ todo
-push_at [] todo rows r = refl
-push_at (d ∷ done) todo rows r = ap (λ ts. d ∷ ts) (push_at done todo rows r)
-
-abbrev vertex_put : ℕ → VertexRow → Change
-vertex_put t r = InsertVertex t r.key r.values
-
-abbrev edge_put : ℕ → EdgeRow → Change
-edge_put t r = InsertEdge t r.key r.source r.destination r.values
-
-vertex_push : (s : SchemaData) (es : List (List EdgeRow)) (done todo : List (List VertexRow)) (rows : List VertexRow) (r : VertexRow)
-    → changed (graph_of s (done ++ rows ∷ todo) es) (vertex_put (length done) r) ≡ graph_of s (done ++ (rows ++ r ∷ []) ∷ todo) es
-vertex_push s es done todo rows r = ap (λ vs. graph_of s vs es) (push_at done todo rows r)
-
-edge_push : (s : SchemaData) (vs : List (List VertexRow)) (done todo : List (List EdgeRow)) (rows : List EdgeRow) (r : EdgeRow)
-    → changed (graph_of s vs (done ++ rows ∷ todo)) (edge_put (length done) r) ≡ graph_of s vs (done ++ (rows ++ r ∷ []) ∷ todo)
-edge_push s vs done todo rows r = ap (λ es. graph_of s vs es) (push_at done todo rows r)
 
 -- ---- the table of a file
 

@@ -1,6 +1,7 @@
 -- The graph that the lines of an inline source stand for.
 use Rattle.std.specs.Prelude.{◌≡◌, ◌↔◌, ℕ, ℤ, List, [], ◌∷◌, map, codes, Result, Ok, IsOk}
-use Rattle.graph_schema.specs.Schema.{SchemaData}
+use Rattle.graph_schema.specs.declared.schema.Keys.TheVariants.{Whole}
+use Rattle.graph_schema.specs.Schema.{SchemaData, schema_with}
 use Rattle.graph_model.specs.declared.row.VertexRow.{VertexRow}
 use Rattle.graph_model.specs.declared.row.EdgeRow.{EdgeRow}
 use Rattle.graph_model.specs.declared.change.Change.{Change}
@@ -10,12 +11,10 @@ use Rattle.table_loader.specs.declared.fault.LoadFault.{LoadFault}
 use Rattle.table_loader.specs.Fault.{◌>>=◌}
 use Rattle.table_loader.specs.Put.{put_all}
 
--- a vertex table V, and an edge table E from V to V, without properties
+-- a vertex table V, and an edge table E from V to V, without properties; keys differ over all tables
 abbrev pub inline_schema : SchemaData
-inline_schema = record {
-  vertices = record { name = codes "V"; props = [] } ∷ [];
-  edges = record { name = codes "E"; source = 0; destination = 0; props = [] } ∷ [];
-}
+inline_schema =
+    schema_with Whole (record { name = codes "V"; props = [] } ∷ []) (record { name = codes "E"; source = 0; destination = 0; props = [] } ∷ [])
 
 -- a `v` line, and an `e` line with a key, a source and a destination, as records without a fault of their own
 abbrev pub vertex_line : ℤ → Result Change ℕ

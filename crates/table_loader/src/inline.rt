@@ -8,7 +8,7 @@ use crate::LoadFault;
 use crate::fault::{RecordFault, fault_at};
 use column_types::{List, NoMemory, Text};
 use graph_model::Graph;
-use graph_schema::{EdgeTable, Schema, SchemaFault, VertexTable};
+use graph_schema::{EdgeTable, Keys, Schema, SchemaFault, VertexTable};
 use std::alloc::Global;
 
 /// The graph of an inline source: a vertex table `V` with a row for each key, and an edge table `E` from V to V with a row for
@@ -45,7 +45,7 @@ fn inline_schema(alloc: Global) -> Result<Schema, NoMemory>
         destination: 0,
         props: List::new(alloc),
     })?;
-    match Schema::new(alloc, vertices, edges) {
+    match Schema::new(alloc, Keys::Whole, vertices, edges) {
         Ok(schema) => Ok(schema),
         Err(SchemaFault::NoMemory) => Err(NoMemory),
         Err(SchemaFault::At { .. }) => unreachable!(),

@@ -3,7 +3,7 @@ ghost use Rattle.table_loader.specs.Inline.{LinesStandForAGraph};
 ghost use Rattle.table_loader.specs.Law.{FaultsAreFirst, LineFaultsAreFirst, LineFaultsAreRowFaults, LinesHaveRowCauses, RecordsHaveRowCauses, TablesStandForAGraph};
 
 /// The files of a schema's tables stand for a graph exactly where each record reads as a row of its table, in order, and these
-/// rows are a graph: keys differ, ends exist, and the limits hold. It is the graph of these rows.
+/// rows are a graph: keys differ as the schema says, ends exist, and the limits hold. It is the graph of these rows.
 pub fn tables_stand_for_a_graph()
     ensures { TablesStandForAGraph }
 {}

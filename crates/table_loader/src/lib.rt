@@ -12,7 +12,7 @@
 //! | 9 | the number of fields is not that of the table |
 //! | 8 | a field is not UTF-8 |
 //! | 10 | a field is no value of its kind |
-//! | 11 | the key is taken by an earlier vertex, or edge, of any table |
+//! | 11 | the key is taken by an earlier vertex, or edge: of any table where keys differ over the whole graph, else of the same table |
 //! | 12 | an end is no key of its end table |
 //! | 13 | the record passes a limit of vertices, edges or cells |
 //!

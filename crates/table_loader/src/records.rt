@@ -20,7 +20,7 @@ pub(crate) fn open_records(alloc: Global, bytes: &[u8]) -> Reader<&[u8]>
 }
 
 /// Takes the next record, and answers whether there was one. A slice is read without a fault, so an error of the reader is
-/// want of memory. Nothing is said of the reader after it.
+/// out of memory. Nothing is said of the reader after it.
 pub(crate) fn take_record(
     reader: &mut Reader<&[u8]>,
     fields: &mut ByteRecord,

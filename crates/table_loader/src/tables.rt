@@ -18,22 +18,23 @@ use std::alloc::Global;
 /// tables.
 ///
 /// `Bad` names the first record with a fault, and its first fault, in the order of the first page. `NoMemory` comes where
-/// memory ran out. One record is read at a time, and its values go straight into the graph.
-pub fn read_tables(alloc: Global, config: &Config, files: &[List<u8>]) -> Result<Graph, LoadFault>
-    requires { length files.now ≡ length config.now.files }
-    ensures ok { IfOk result (λ graph. tables_of config.now.schema files.now ≡ Ok graph) }
-    ensures cause { IfErr result (LoadCause (tables_of config.now.schema files.now)) }
+/// memory ran out. One record is read at a time, and its values go straight into the graph; a file's bytes are let go as soon as
+/// its last record is in the graph.
+pub fn read_tables(
+    alloc: Global,
+    config: &Config,
+    files: List<List<u8>>,
+) -> Result<Graph, LoadFault>
+    requires { length files ≡ length config.now.files }
+    ensures ok { IfOk result (λ graph. tables_of config.now.schema files ≡ Ok graph) }
+    ensures cause { IfErr result (LoadCause (tables_of config.now.schema files)) }
 {
     config.sound();
     let mut graph = Graph::empty(alloc, copy_schema(&config.schema)?)?;
-    for (file, bytes) in files.iter().enumerate() {
-        put_file(
-            alloc,
-            &mut graph,
-            &config.schema,
-            file as u32,
-            bytes.as_slice(),
-        )?;
+    let mut file = 0;
+    for bytes in files.into_vec() {
+        put_file(alloc, &mut graph, &config.schema, file, bytes.as_slice())?;
+        file += 1;
     }
     Ok(graph)
 }

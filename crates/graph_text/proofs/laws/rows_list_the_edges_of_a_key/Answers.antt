@@ -7,10 +7,10 @@ returns c =
     let t = c.args.at.table in
     let place = c.args.at.place in
     record {
-      leaving = leaving_listed g t place c.args.key c.args.edges c.sound.ensures c.requires;
-      entering = entering_listed g t place c.args.key c.args.edges c.sound.ensures c.requires;
+      leaving = leaving_listed g t place c.args.key c.sound.ensures c.requires c.args.edges;
+      entering = entering_listed g t place c.args.key c.sound.ensures c.requires c.args.edges;
       out_there = out_there g t place c.args.edges;
       in_there = in_there g t place c.args.edges;
-      none_leaves = none_leaves g t place c.args.key c.args.edges c.sound.ensures c.requires;
-      none_enters = none_enters g t place c.args.key c.args.edges c.sound.ensures c.requires;
+      none_leaves = none_leaves g t c.args.key c.args.edges;
+      none_enters = none_enters g t c.args.key c.args.edges;
     }

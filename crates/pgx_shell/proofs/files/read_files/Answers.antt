@@ -1,7 +1,0 @@
-use Rattle.pgx_shell.proofs.Kept.{files_read}
-use Rattle.pgx_shell.proofs.files.read_files.Goals as goal
-
-pub returns-clause-ok : goal.returns-clause-ok
-returns-clause-ok g c =
-    files_read (g.L.Library.files c.args.lib.now) (g.L.Library.files c.get_file.new.lib) c.args.name.now c.in_ok-bytes.bytes c.in_ok-config.config c.in_ok-graph.graph
-    c.in_ok-bytes.ensures.same c.in_ok-bytes.ensures.ok (rw c.as_slice.ensures at c.in_ok-config.ensures.ok) c.in_ok-graph.ensures.ok
