@@ -155,7 +155,7 @@ module _ {S N R C A T M H : Type 0} (u : Rules S N R C A T M H) where
       let t = (u.step s e.who e.note).1 in
       let own : Reaches u w (n + 1) at e rs (Behind u w (n + 1) t e es to) → Placed at.after at.index rs
       = λ o. subst (λ l. Placed at.after at.index l) (sym o.parts)
-      (locals_placed w at o.here o.locals (core_record (n + 1) e ∷ o.more) o.before (tt, agrees_placed w (n + 1) t (after_core u w (n + 1) t o.here e) to es o.more o.behind)) in
+      (locals_placed w at o.here o.locals (core_record (n + 1) e ∷ o.more) o.before ((refl, refl), agrees_placed w (n + 1) t (after_core u w (n + 1) t o.here e) to es o.more o.behind)) in
       from_either (eqb e.who w) own (λ o. agrees_placed w (n + 1) t at to es rs o) a
 
   module _ (s : S) (minds : ℕ → M) (es : List (Entry N R)) (parts : ℕ → List (Record N R C A T)) (to : ℕ → Stand M H)

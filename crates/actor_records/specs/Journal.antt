@@ -29,7 +29,7 @@ module _ {S N R C A T M H : Type 0} (u : Rules S N R C A T M H) (start : S) (min
     -- each actor makes its calls in their order, each once, up to the last
     pub due : AllDue u opening_world J
     pub finished : (who : ℕ) → Finished ((world_after u opening_world J).minds who)
-    -- each other record tells the last core record of its actor, and counts from there
+    -- a core record tells 0 and 0, and each other record the last core record of its actor, and counts from there
     pub placed : (who : ℕ) → Placed 0 0 (of_who who J)
     pub known : All (λ r. IsActor actors r.who) J
     pub order : AllPairs Before J

@@ -12,10 +12,10 @@ module _ {N R C A T : Type 0} where
   abbrev pub Before : Record N R C A T → Record N R C A T → Type 0
   Before r q = (place r < place q) ⊎ ((place r ≡ place q) × ((r.who < q.who) ⊎ ((r.who ≡ q.who) × (r.index < q.index))))
 
-  -- the place that is due for a record that is no core record
+  -- the place that is due: a core record tells 0 and 0, another the last core record, and counts on
   abbrev pub IsPlaced : Option ℕ → ℕ → ℕ → Record N R C A T → Type 0
   IsPlaced None after index r = (r.after ≡ after) × (r.index ≡ index + 1)
-  IsPlaced (Some n) after index r = ⊤
+  IsPlaced (Some n) after index r = (r.after ≡ 0) × (r.index ≡ 0)
 
   -- the records of one actor tell their places, the last core record having the number `after` and `index` records behind it
   abbrev pub Placed : ℕ → ℕ → List (Record N R C A T) → Type 0

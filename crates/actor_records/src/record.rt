@@ -11,8 +11,7 @@ pub enum Did<N, R, C, A, T> {
 
 /// One entry of the journal.
 ///
-/// A core record, one of [`Did::Core`], has a number, its place in the history; its `after` and `index` are 0 and say
-/// nothing. Any other stands after the core record of the number `after` of its actor, or at the start where that is 0, and
+/// A core record, one of [`Did::Core`], has a number, its place in the history; its `after` and `index` are 0. Any other stands after the core record of the number `after` of its actor, or at the start where that is 0, and
 /// `index` counts from 1 since then.
 #[derive(Drop)]
 pub struct Record<N, R, C, A, T> {

@@ -24,7 +24,7 @@ KeepsFiles (Some files) (Some others) = others ≡ files
 abbrev pub Finds : {E : Type 0} → Option Files → List ℕ → Result (Option (List ℕ)) E → Type 0
 Finds told name result = IfSome told (λ files. IfOk result (λ found. found ≡ files name))
 
--- the count did not fall, and `Failed` came only where it rose; want of memory has no cause
+-- the count did not fall, and `Failed` came only where it rose; out of memory has no cause
 pub record GetsWithCause {T : Type 0} (before now : ℕ) (result : Result T GetFault) : Type 0 where
   pub later : before ≤ now
   pub failed : IsErrOf result Failed → Rose before now

@@ -1,5 +1,5 @@
 //! The files of the working folder, and no others. They tell nothing of what they hold.
-ghost use Rattle.std.specs.Prelude.{◌≡◌, None, Ok, true};
+ghost use Rattle.std.specs.Prelude.{◌≡◌, ◌≤◌, None, Ok, Err, true, ltb, length, IfOk, IfSome};
 ghost use Rattle.pgx_io.specs.Causes.{Rose};
 ghost use Rattle.pgx_io.specs.Files.{Finds, KeepsFiles, GetsWithCause};
 ghost use Rattle.pgx_io.specs.Names.{climbs, is_absolute, leads_out};
@@ -55,6 +55,7 @@ impl<F: Files> Library for DirLibrary<F> {
         ensures same { KeepsFiles None None }
         ensures cause { GetsWithCause self.old self.new result }
         ensures fence { leads_out name.now ≡ true → result ≡ Ok None }
+        ensures short { IfOk result (λ found. IfSome found (λ bytes. length bytes ≤ 268435456)) }
     {
         if leads_out(name) {
             return Ok(None);
@@ -96,20 +97,52 @@ fn open_regular<F: Files>(folder: &F, name: &str) -> io::Result<F::File> {
     File::open(folder, name)
 }
 
-fn read_file<F: Files>(
-    alloc: Global,
-    folder: &F,
-    name: &str,
-) -> Result<Option<List<u8>>, GetFault> {
+/// What is answered where a file was not opened: none only where the system says that there is no such file.
+fn not_opened(kind: ErrorKind) -> Result<Option<List<u8>>, GetFault>
+    ensures missing { result ≡ Ok None → kind ≡ ErrorKind.NotFound }
+    ensures nothing { IfOk result (λ found. found ≡ None) }
+    ensures memory { result ≡ Err GetFault.NoMemory → kind ≡ ErrorKind.OutOfMemory }
+{
+    match kind {
+        ErrorKind::NotFound => Ok(None),
+        _ => Err(fault_of(kind)),
+    }
+}
+
+/// Why a file was not read.
+fn fault_of(kind: ErrorKind) -> GetFault
+    ensures memory { result ≡ GetFault.NoMemory → kind ≡ ErrorKind.OutOfMemory }
+{
+    match kind {
+        ErrorKind::OutOfMemory => GetFault::NoMemory,
+        _ => GetFault::Failed,
+    }
+}
+
+/// Whether so many bytes are too many for a file.
+fn is_too_long(count: usize) -> bool
+    ensures { result ≡ ltb 268435456 count }
+{
+    count as u64 > FILE_LIMIT
+}
+
+/// All bytes of a file, where there are at most `FILE_LIMIT`. More are a failure.
+fn read_whole<R: Read + Drop>(alloc: Global, file: R) -> Result<List<u8>, GetFault>
+    ensures short { IfOk result (λ bytes. length bytes ≤ 268435456) }
+{
     let mut bytes = Vec::new(alloc);
-    let read = match open_regular(folder, name) {
-        Ok(file) => file.take(FILE_LIMIT + 1).read_to_end(&mut bytes),
-        Err(error) if error.kind() == ErrorKind::NotFound => return Ok(None),
-        Err(error) => Err(error),
-    };
-    match read {
-        Ok(count) if count as u64 <= FILE_LIMIT => Ok(Some(List::from_vec(bytes))),
-        Err(error) if error.kind() == ErrorKind::OutOfMemory => Err(GetFault::NoMemory),
-        _ => Err(GetFault::Failed),
+    match file.take(FILE_LIMIT + 1).read_to_end(&mut bytes) {
+        Ok(count) if !is_too_long(count) => Ok(List::from_vec(bytes)),
+        Ok(_) => Err(GetFault::Failed),
+        Err(error) => Err(fault_of(error.kind())),
+    }
+}
+
+fn read_file<F: Files>(alloc: Global, folder: &F, name: &str) -> Result<Option<List<u8>>, GetFault>
+    ensures short { IfOk result (λ found. IfSome found (λ bytes. length bytes ≤ 268435456)) }
+{
+    match open_regular(folder, name) {
+        Ok(file) => Ok(Some(read_whole(alloc, file)?)),
+        Err(error) => not_opened(error.kind()),
     }
 }

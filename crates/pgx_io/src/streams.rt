@@ -1,11 +1,12 @@
-//! Standard input and output. They tell nothing of what they hold.
-ghost use Rattle.std.specs.Prelude.{◌≡◌, None};
+//! Standard input and output. They tell of bytes exactly what the reader or the writer under them tells: the system's own tell
+//! nothing of what they hold.
+ghost use Rattle.std.specs.Prelude.{◌≡◌};
 
 use crate::{Failed, Sink, Source};
 use std::io::{Read, Write};
 use std::marker::Model;
 
-/// A reader, such as standard input, seen as how often it has failed.
+/// A reader, such as standard input, seen as the bytes that it tells and how often it has failed.
 #[derive(Drop)]
 pub struct StdinSource<R: Read> {
     inner: R,
@@ -13,25 +14,25 @@ pub struct StdinSource<R: Read> {
 }
 
 impl<R: Read> Model for StdinSource<R> {
-    ghost use Rattle.std.specs.Prelude.{ℕ};
+    ghost use Rattle.std.specs.Prelude.{ℕ, List, Option};
 
-    ghost Value = { ℕ };
+    ghost Value = { Option (List ℕ) × ℕ };
 
-    ghost view = { λ s. s.failures };
+    ghost view = { λ s. (R.remaining s.inner, s.failures) };
 }
 
 impl<R: Read> StdinSource<R> {
     pub fn new(inner: R) -> StdinSource<R>
-        ensures { result ≡ 0 }
+        ensures { result ≡ (R.remaining inner, 0) }
     {
         StdinSource { inner, failures: 0 }
     }
 }
 
 impl<R: Read> Source for StdinSource<R> {
-    ghost rest = { λ _. None };
+    ghost rest = { λ s. s.0 };
 
-    ghost faults = { λ s. s };
+    ghost faults = { λ s. s.1 };
 
     fn read(&mut self, buf: &mut [u8]) -> Result<usize, Failed> {
         match self.inner.read(buf) {
@@ -44,7 +45,7 @@ impl<R: Read> Source for StdinSource<R> {
     }
 }
 
-/// A writer, such as standard output, seen as how often it has failed.
+/// A writer, such as standard output, seen as the bytes that it tells and how often it has failed.
 #[derive(Drop)]
 pub struct StdoutSink<W: Write> {
     inner: W,
@@ -52,25 +53,25 @@ pub struct StdoutSink<W: Write> {
 }
 
 impl<W: Write> Model for StdoutSink<W> {
-    ghost use Rattle.std.specs.Prelude.{ℕ};
+    ghost use Rattle.std.specs.Prelude.{ℕ, List, Option};
 
-    ghost Value = { ℕ };
+    ghost Value = { Option (List ℕ) × ℕ };
 
-    ghost view = { λ s. s.failures };
+    ghost view = { λ s. (W.contents s.inner, s.failures) };
 }
 
 impl<W: Write> StdoutSink<W> {
     pub fn new(inner: W) -> StdoutSink<W>
-        ensures { result ≡ 0 }
+        ensures { result ≡ (W.contents inner, 0) }
     {
         StdoutSink { inner, failures: 0 }
     }
 }
 
 impl<W: Write> Sink for StdoutSink<W> {
-    ghost taken = { λ _. None };
+    ghost taken = { λ s. s.0 };
 
-    ghost faults = { λ s. s };
+    ghost faults = { λ s. s.1 };
 
     fn write(&mut self, bytes: &[u8]) -> Result<usize, Failed> {
         match self.inner.write(bytes) {

@@ -8,3 +8,4 @@ pub mod Kept
 pub mod Numbers
 pub mod Spelled
 pub mod Whys
+pub mod Surely

@@ -16,8 +16,20 @@ Gives (Ok x) read = read ≡ Ok x
 Gives (Err (fault.Bad why)) read = read ≡ Err why
 Gives (Err fault.NoMemory) read = ⊤
 
+-- the same of a step that takes no memory
+abbrev pub GivesSurely : {A : Type 0} → Result A LineFault → Result A LineWhy → Type 0
+GivesSurely (Ok x) read = read ≡ Ok x
+GivesSurely (Err (fault.Bad why)) read = read ≡ Err why
+GivesSurely (Err fault.NoMemory) read = ⊥
+
 -- the same of a call that writes what the definition gives
 abbrev pub Writes : {A B : Type 0} → Result B LineFault → A → Result A LineWhy → Type 0
 Writes (Ok done) new read = read ≡ Ok new
 Writes (Err (fault.Bad why)) new read = read ≡ Err why
 Writes (Err fault.NoMemory) new read = ⊤
+
+-- the same of a call that takes no memory
+abbrev pub WritesSurely : {A B : Type 0} → Result B LineFault → A → Result A LineWhy → Type 0
+WritesSurely (Ok done) new read = read ≡ Ok new
+WritesSurely (Err (fault.Bad why)) new read = read ≡ Err why
+WritesSurely (Err fault.NoMemory) new read = ⊥

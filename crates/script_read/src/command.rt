@@ -1,6 +1,6 @@
 //! The commands of a script, a function for each.
 ghost use Rattle.script_read.specs.Commands.{open_of, close_of, columns_of, load_of, clone_of, release_of, show_of, rows_of, graph_form_of, form_of, command_of};
-ghost use Rattle.script_read.specs.Faults.{Gives};
+ghost use Rattle.script_read.specs.Faults.{Gives, GivesSurely};
 
 use crate::fault::{LineFault, LineWhy};
 use crate::words::{nth_word, read_alone, read_one_name, read_two_names};
@@ -19,7 +19,7 @@ pub fn read_command(alloc: Global, line: &str) -> Result<Command, LineFault>
 }
 
 /// The form of a line, by its first word.
-#[tactic(auto, unfolding(crate::specs::Commands::form_of))]
+#[tactic(auto, using(crate::proofs::Surely::gives_surely), unfolding(crate::specs::Commands::form_of))]
 fn read_form(alloc: Global, line: &str) -> Result<Form, LineFault>
     ensures { Gives result (form_of line.now) }
 {
@@ -58,7 +58,7 @@ fn read_graph_form(alloc: Global, line: &str) -> Result<Form, LineFault>
 
 #[tactic(auto, unfolding(crate::specs::Commands::open_of))]
 fn read_open(line: &str) -> Result<Form, LineFault>
-    ensures { Gives result (open_of line.now) }
+    ensures { GivesSurely result (open_of line.now) }
 {
     read_alone(line)?;
     Ok(Form::Open)
@@ -66,7 +66,7 @@ fn read_open(line: &str) -> Result<Form, LineFault>
 
 #[tactic(auto, unfolding(crate::specs::Commands::close_of))]
 fn read_close(line: &str) -> Result<Form, LineFault>
-    ensures { Gives result (close_of line.now) }
+    ensures { GivesSurely result (close_of line.now) }
 {
     read_alone(line)?;
     Ok(Form::Close)
@@ -74,7 +74,7 @@ fn read_close(line: &str) -> Result<Form, LineFault>
 
 #[tactic(auto, unfolding(crate::specs::Commands::columns_of))]
 fn read_columns(line: &str) -> Result<Form, LineFault>
-    ensures { Gives result (columns_of line.now) }
+    ensures { GivesSurely result (columns_of line.now) }
 {
     read_alone(line)?;
     Ok(Form::Columns)

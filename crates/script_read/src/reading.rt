@@ -1,6 +1,6 @@
 //! What has been read of a script, and what each kind of line does to it.
 ghost use Rattle.std.specs.Prelude.{◌≡◌};
-ghost use Rattle.script_read.specs.Faults.{Gives, Writes};
+ghost use Rattle.script_read.specs.Faults.{GivesSurely, Writes, WritesSurely};
 ghost use Rattle.script_read.specs.Places.{has_source, new_source, inline_line, files_line, source_line, vertex_line, edge_line, end_line, phase_line, actor_line, command_line, line_in};
 
 use crate::command::read_command;
@@ -53,7 +53,7 @@ pub struct Reading {
 }
 
 /// Reads a line by the place where it stands. After an error nothing is said of what has been read.
-#[tactic(auto, unfolding(crate::specs::Places::line_in, crate::specs::Places::built_line))]
+#[tactic(auto, using(crate::proofs::Surely::writes_surely), unfolding(crate::specs::Places::line_in, crate::specs::Places::built_line))]
 pub fn read_in_place(alloc: Global, reading: &mut Reading, line: &str) -> Result<(), LineFault>
     ensures { Writes result reading.new (line_in reading.old.place reading.old line.now) }
 {
@@ -82,7 +82,7 @@ fn has_source(sources: &[SourceText], text: &str) -> bool
 /// Nothing, where one more source may stand under a name.
 #[tactic(auto, unfolding(crate::specs::Places::new_source))]
 fn check_new_source(sources: &[SourceText], name: &str) -> Result<(), LineFault>
-    ensures { Gives result (new_source sources.now name.now) }
+    ensures { GivesSurely result (new_source sources.now name.now) }
 {
     if has_source(sources, name) {
         return Err(LineFault::Bad(LineWhy::Twice));
@@ -188,7 +188,7 @@ fn read_end(alloc: Global, reading: &mut Reading, line: &str) -> Result<(), Line
 
 #[tactic(auto, unfolding(crate::specs::Places::phase_line))]
 fn read_phase(reading: &mut Reading, line: &str) -> Result<(), LineFault>
-    ensures { Writes result reading.new (phase_line reading.old line.now) }
+    ensures { WritesSurely result reading.new (phase_line reading.old line.now) }
 {
     read_alone(line)?;
     reading.place = Place::Phase;

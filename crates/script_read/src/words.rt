@@ -1,7 +1,7 @@
 //! The words of a line, and what a word is read as.
 ghost use Rattle.std.specs.Prelude.{◌≡◌};
 ghost use Rattle.std.specs.List.{list_all};
-ghost use Rattle.script_read.specs.Faults.{Gives};
+ghost use Rattle.script_read.specs.Faults.{Gives, GivesSurely};
 ghost use Rattle.script_read.specs.Words.{word_count, word_at, has_word, is_letter, is_digit, is_name_byte, is_name, name, is_file_byte, is_file_name, file_name, is_decimal, is_key, key_number, key, alone, one_name, two_names};
 
 use crate::fault::{LineFault, LineWhy};
@@ -143,7 +143,7 @@ fn key_number(word: &str) -> Option<i64>
 /// A word that is due as a key.
 #[tactic(auto, unfolding(crate::specs::Words::key))]
 pub fn read_key(word: &str) -> Result<i64, LineFault>
-    ensures { Gives result (key word.now) }
+    ensures { GivesSurely result (key word.now) }
 {
     match key_number(word) {
         Some(key) => Ok(key),
@@ -154,7 +154,7 @@ pub fn read_key(word: &str) -> Result<i64, LineFault>
 /// A line that is its first word alone.
 #[tactic(auto, unfolding(crate::specs::Words::alone))]
 pub fn read_alone(line: &str) -> Result<(), LineFault>
-    ensures { Gives result (alone line.now) }
+    ensures { GivesSurely result (alone line.now) }
 {
     if count_words(line) != 1 {
         return Err(LineFault::Bad(LineWhy::Form));

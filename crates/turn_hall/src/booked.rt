@@ -1,5 +1,5 @@
 //! A desk with the history of its calls.
-ghost use Rattle.std.specs.Prelude.{◌≡◌, ◌++◌, ◌∷◌, [], IfOk, OnErr, length};
+ghost use Rattle.std.specs.Prelude.{◌≡◌, ◌⊎◌, ◌++◌, ◌∷◌, [], IfOk, OnOk, OnErr, length};
 ghost use Rattle.turn_hall.specs.Replay.{replay, IsLegal, entry};
 
 use crate::desk::Desk;
@@ -60,7 +60,8 @@ impl<D: Desk> Booked<D> {
         self.book.len() as u64
     }
 
-    /// Serves one call, which is one entry, or none where memory runs out. The entry's place is made before the desk works.
+    /// Serves one call, which is one entry, or none where memory runs out. The entry's place is made before the desk works. The
+    /// steps are those that the desk counts; where memory runs out before the desk works there are none.
     pub(crate) fn serve<L: Ledger>(
         &mut self,
         alloc: Global,
@@ -72,7 +73,9 @@ impl<D: Desk> Booked<D> {
         ensures book { IfOk result (λ r. self.new.book ≡ self.old.book ++ entry who (D.note_of call) r.0 ∷ []) }
         ensures step { IfOk result (λ r. D.step (D.state self.old.desk) who (D.note_of call) ≡ (r.0, D.state self.new.desk)) }
         ensures gift { IfOk result (λ r. D.gives (D.state self.new.desk) who (D.note_of call) r.0 r.1) }
+        ensures short { OnOk result (D.short (D.state self.old.desk) who (D.note_of call) steps.old steps.new) }
         ensures err { OnErr result ((self.new.book ≡ self.old.book) × (D.state self.new.desk ≡ D.state self.old.desk)) }
+        ensures tried { OnErr result ((steps.new ≡ steps.old) ⊎ D.short (D.state self.old.desk) who (D.note_of call) steps.old steps.new) }
     {
         self.book.reserve(1)?;
         let served = self.desk.serve(alloc, who, call, steps)?;
