@@ -1,15 +1,17 @@
 -- counts of edge ends
-use Rattle.std.proofs.Common.{◌≡◌, ◌≢◌, ℕ, ◌+◌, ◌≤◌, Bool, true, false, cond, List, [], ◌∷◌, get_or, drop, length, map, refl, ap, sym, ◌∙◌, arith, if◌then◌else◌}
+use Rattle.std.proofs.Common.{◌≡◌, ◌≢◌, ℕ, ◌+◌, ◌<◌, ◌≤◌, All, Bool, true, false, cond, List, [], ◌∷◌, get_or, drop, length, map, refl, ap, sym, ◌∙◌, arith, if◌then◌else◌}
 use Rattle.std.specs.Prelude.{count_by, sum_by, ◌&&◌, ◌==◌}
 use Rattle.std.proofs.lemmas.Bool.{and_parts, and_from, false≢true}
 use Rattle.std.proofs.lemmas.Bool.Decides.{nat_tests}
 use Rattle.std.proofs.lemmas.List.{get_or-drop, drop-drop}
 use Rattle.std.proofs.lemmas.List.Sums.{sum_by-cons, count_by-le-length}
+use Rattle.std.proofs.lemmas.List.Elements.{All-head, All-tail, All-weaker}
 use Rattle.csr_rows.specs.Rows.{places_from, places_of}
 use Rattle.algo_digraph.specs.declared.arcs.Arc.{Arc}
-use Rattle.algo_digraph.specs.Digraph.{Digraph, leaving, entering, source_of, target_of}
+use Rattle.algo_digraph.specs.Digraph.{Digraph, IsClosed, leaving, entering, source_of, target_of}
 use Rattle.algo_digraph.specs.Arcs.{arc, out_arcs, in_arcs}
 use Rattle.algo_digraph.specs.Cores.{ends_inside, is_inside}
+use Rattle.algo_digraph.proofs.ArcEdges.{out_ends, in_ends}
 
 -- ---- tests that count the same, fewer, or in two parts
 
@@ -181,6 +183,27 @@ module _ (g : Digraph) (whole rest : ℕ → Bool) (v w : ℕ) (apart : w ≢ v)
         count_parts (λ p. (p.0 == w) && is_inside whole p) (λ p. (p.0 == w) && is_inside rest p) (λ p. (p.1 == v) && (p.0 == w)) g.edges (λ p. ahead_lost p (p.0 == w) refl),
         count_parts (λ p. (p.1 == w) && is_inside whole p) (λ p. (p.1 == w) && is_inside rest p) (λ p. (p.0 == v) && (p.1 == w)) g.edges (λ p. behind_lost p (p.1 == w) refl),
       )
+
+-- a test that all pass
+count_all : {X : Type 0} (p : X → Bool) (xs : List X) → All (λ x. p x ≡ true) xs → count_by p xs ≡ length xs
+count_all p [] all = refl
+count_all p (x ∷ xs) all =
+    omega (
+      arith,
+      sum_by-cons (λ y. cond (p y) 1 0) x xs,
+      ap {B = ℕ} (λ b. cond b 1 0) (All-head (λ y. p y ≡ true) x xs all),
+      count_all p xs (All-tail (λ y. p y ≡ true) x xs all),
+    )
+
+-- in a set of all vertices the edge ends of each are all its arcs
+pub all_inside : (g : Digraph) (set : ℕ → Bool) (v : ℕ) → IsClosed g → ((u : ℕ) → u < g.vertices → set u ≡ true) → v < g.vertices
+    → length (out_arcs g v) + length (in_arcs g v) ≡ ends_inside g set v
+all_inside g set v closed all lt =
+    let outs : count_by (λ (a : Arc). set a.vertex) (out_arcs g v) ≡ length (out_arcs g v) =
+    count_all (λ (a : Arc). set a.vertex) (out_arcs g v) (All-weaker (λ (a : Arc). a.vertex < g.vertices) (λ (a : Arc). set a.vertex ≡ true) (λ a h. all a.vertex h) (out_arcs g v) (out_ends g v closed)) in
+    let ins : count_by (λ (a : Arc). set a.vertex) (in_arcs g v) ≡ length (in_arcs g v) =
+    count_all (λ (a : Arc). set a.vertex) (in_arcs g v) (All-weaker (λ (a : Arc). a.vertex < g.vertices) (λ (a : Arc). set a.vertex ≡ true) (λ a h. all a.vertex h) (in_arcs g v) (in_ends g v closed)) in
+    omega (arith, outs, ins, ends_by_arcs g v set (all v lt))
 
 -- no vertex has more edge ends than all edges have
 pub ends_few : (g : Digraph) (set : ℕ → Bool) (v : ℕ) → ends_inside g set v ≤ length g.edges + length g.edges

@@ -60,6 +60,11 @@ module _ {X : Type 0} (p : X → Bool) where
   shorter [] x h px = absurd (omega (arith, h.1))
   shorter (y ∷ xs) x h px = shorter_by y x xs (p y) refl px (λ q. shorter xs x q px) (here_or_there y x xs h)
 
+  -- where the list gets no shorter each item passes
+  pub all_pass : (xs : List X) (x : X) (b : Bool) → p x ≡ b → length (filter p xs) ≡ length xs → Contains xs x → p x ≡ true
+  all_pass xs x true e same h = e
+  all_pass xs x false e same h = absurd (omega (arith, shorter xs x h e, same))
+
 -- ---- lists made item by item
 
 pub range_more : (n : ℕ) → range_with_len 0 (n + 1) ≡ range_with_len 0 n ++ n ∷ []
@@ -83,6 +88,12 @@ module _ (ends left : List ℕ) (level v : ℕ) where
 
   pub few_has : Contains left v → slice_index ends v ≤ level → Contains (filter (λ u. nat_le (slice_index ends u) level) left) v
   few_has h le = passes (λ u. nat_le (slice_index ends u) level) left v h (le-leb (slice_index ends v) level le)
+
+  -- where the list got no shorter all of it is there
+  pub few_all : length (filter (λ u. nat_le (slice_index ends u) level) left) ≡ length left → Contains left v → Contains (filter (λ u. nat_le (slice_index ends u) level) left) v
+  few_all same h =
+      passes (λ u. nat_le (slice_index ends u) level) left v h
+      (all_pass (λ u. nat_le (slice_index ends u) level) left v (nat_le (slice_index ends v) level) refl same h)
 
 -- ---- all vertices
 

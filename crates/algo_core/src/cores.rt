@@ -12,6 +12,10 @@ use par_rounds::round;
 use std::alloc::Global;
 use std::thread::Threads;
 
+/// A round counts the edge ends of all that is left, where a queue counts off those of the vertices that go. So a round wants a
+/// level that is so many times wider than that of a search.
+const ROUND_COST: usize = 4;
+
 /// For each vertex its core number in a digraph.
 pub(crate) fn digraph_core_numbers<R: Threads + Sync>(
     rt: &R,
@@ -25,7 +29,7 @@ pub(crate) fn digraph_core_numbers<R: Threads + Sync>(
 {
     let n = digraph.vertex_count();
     let mut cores = Marks::none(alloc, n)?;
-    let mut ends = count_ends(rt, alloc, digraph, &cores, workers)?;
+    let mut ends = all_ends(rt, alloc, digraph, workers)?;
     let mut left = all_vertices(alloc, n)?;
     let mut level = 0u32;
     'levels: while !left.is_empty() {
@@ -60,13 +64,18 @@ fn peel_level<R: Threads + Sync>(
     requires peeling { IsPeeling digraph.now level cores.old ends.old }
     requires level { level < 2 ^ 31 }
     requires left { (v : ℕ) → Contains left.now v → v < digraph.now.vertices }
+    requires has { (v : ℕ) → is_left cores.old v ≡ true → Contains left.now v }
     requires workers { (1 ≤ workers) × (workers ≤ 64) }
     ensures peeling { OnOk result (IsPeeling digraph.now level cores.new ends.new) }
     ensures kept { OnOk result ((v k : ℕ) → core_of cores.old v ≡ Some k → core_of cores.new v ≡ Some k) }
     ensures gone { OnOk result ((v : ℕ) → Contains left.now v → slice_index ends.old v ≤ level → core_of cores.new v ≢ None) }
 {
     let queue = with_few_ends(alloc, ends.as_slice(), left, level)?;
-    if is_wide(workers, queue.len(), digraph.vertex_count()) {
+    if queue.len() == left.len() {
+        peel_rest(digraph, cores, ends.as_slice(), queue.as_slice(), level);
+        return Ok(());
+    }
+    if is_wide(workers, queue.len() / ROUND_COST, digraph.vertex_count()) {
         return peel_at_once(
             rt,
             alloc,
@@ -79,6 +88,21 @@ fn peel_level<R: Threads + Sync>(
         );
     }
     peel_queue(digraph, cores, ends, queue, level)
+}
+
+/// Gives all vertices that are left their number, where all of them are queued. Their edge ends are counted no more.
+fn peel_rest(digraph: &FlatDigraph<'_>, cores: &mut Marks, ends: &[u32], queue: &[u32], level: u32)
+    requires peeling { IsPeeling digraph.now level cores.old ends.now }
+    requires level { level < 2 ^ 31 }
+    requires queued { (v : ℕ) → Contains queue.now v → (v < digraph.now.vertices) × (slice_index ends.now v ≤ level) }
+    requires all { (v : ℕ) → is_left cores.old v ≡ true → Contains queue.now v }
+    ensures peeling { IsPeeling digraph.now level cores.new ends.now }
+    ensures kept { (v k : ℕ) → core_of cores.old v ≡ Some k → core_of cores.new v ≡ Some k }
+    ensures gone { (v : ℕ) → Contains queue.now v → core_of cores.new v ≢ None }
+{
+    let _ = digraph.vertex_count();
+    let _ = ends.len();
+    number_all(cores, queue, level);
 }
 
 /// Gives all vertices of a queue their number, and counts the edge ends of the others anew.
@@ -202,6 +226,29 @@ fn sources_left(digraph: &FlatDigraph<'_>, cores: &Marks, v: u32) -> u32
         }
     }
     count
+}
+
+/// For each vertex the number of its edge ends, read off the lengths of its rows.
+fn all_ends<R: Threads + Sync>(
+    rt: &R,
+    alloc: Global,
+    digraph: &FlatDigraph<'_>,
+    workers: u32,
+) -> Result<List<u32>, NoMemory>
+    requires workers { (1 ≤ workers) × (workers ≤ 64) }
+    ensures len { IfOk result (λ ends. length ends ≡ digraph.now.vertices) }
+    ensures each { IfOk result (λ ends. (v : ℕ) → v < digraph.now.vertices
+        → slice_index ends v ≡ length (out_arcs digraph.now v) + length (in_arcs digraph.now v)) }
+{
+    round(
+        rt,
+        alloc,
+        workers,
+        digraph.vertex_count(),
+        |v: u32| -> u32
+            ensures { result ≡ length (out_arcs digraph.entry.now v) + length (in_arcs digraph.entry.now v) }
+        { digraph.out_degree(v) + digraph.in_degree(v) },
+    )
 }
 
 fn all_vertices(alloc: Global, n: u32) -> Result<List<u32>, NoMemory>

@@ -16,7 +16,7 @@ use std::thread::Threads;
 ///
 /// The list has an entry for each vertex of the graph, by index: table by table, and in a table by places. It does not depend
 /// on `workers`, the number of threads, from 1 to 64. The snapshot's own rows are read, and the memory is in proportion to the
-/// vertices. Want of memory is the only error.
+/// vertices. Running out of memory is the only error.
 pub fn core_numbers<R: Threads + Sync>(
     rt: &R,
     alloc: Global,

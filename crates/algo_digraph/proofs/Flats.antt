@@ -1,5 +1,5 @@
 -- the digraph that the sides of all tables are seen as
-use Rattle.std.proofs.Common.{◌≡◌, ℕ, ◌<◌, List, Some, All, length, slice_get, slice_index, slice_index_or, map, refl, ap, sym, ◌∙◌, subst, arith}
+use Rattle.std.proofs.Common.{◌≡◌, ℕ, ◌<◌, ◌≤◌, List, Some, All, length, slice_get, slice_index, slice_index_or, map, refl, ap, sym, ◌∙◌, subst, arith}
 use Rattle.std.specs.Prelude.{flat_map}
 use Rattle.std.specs.List.{zip}
 use Rattle.std.proofs.lemmas.List.{length-map}
@@ -13,7 +13,7 @@ use Rattle.algo_digraph.specs.Arcs.{arc, out_arcs, in_arcs}
 use Rattle.algo_digraph.specs.Sides.{side_arcs, all_ends, HasRows, IsFlat}
 use Rattle.algo_digraph.proofs.Lists.{map_same, first_at, second_at, seconds-zip}
 use Rattle.algo_digraph.proofs.Sides.{arcs_are, all_have_rows, ends_in, ends_long}
-use Rattle.algo_digraph.proofs.ArcEdges.{goes_within, source_is, target_is}
+use Rattle.algo_digraph.proofs.ArcEdges.{goes_within, source_is, target_is, out_few, in_few}
 
 module _ (vertices : ℕ) (out into : List Side) (is : IsFlat vertices out into) where
   abbrev pub flat : Digraph
@@ -70,6 +70,17 @@ module _ (vertices : ℕ) (out into : List Side) (is : IsFlat vertices out into)
 
   pub closed_seen : (g : Digraph) → flat ≡ g → IsClosed g
   closed_seen g seen = subst IsClosed seen closed
+
+  -- there are few arcs
+  pub out_short : (v : ℕ) → length (flat_map (side_arcs v) out) ≤ 4194304
+  out_short v =
+      let same : length (flat_map (side_arcs v) out) ≡ length (out_arcs flat v) = ap length (out_is v) in
+      omega (arith, same, out_few flat v, edge_count, is.few_edges)
+
+  pub in_short : (v : ℕ) → length (flat_map (side_arcs v) into) ≤ 4194304
+  in_short v =
+      let same : length (flat_map (side_arcs v) into) ≡ length (in_arcs flat v) = ap length (in_is v) in
+      omega (arith, same, in_few flat v, edge_count, is.few_edges)
 
   -- the rows of both sides can be read
   pub out_rows : All HasRows out

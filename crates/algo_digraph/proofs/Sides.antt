@@ -1,9 +1,10 @@
 -- the arcs of a vertex, from the sides of the tables
-use Rattle.std.proofs.Common.{◌≡◌, ℕ, suc, ◌==◌, ◌+◌, ◌-◌, ◌<◌, ◌≤◌, ℤ, pos, negsuc, Bool, true, false, nat_lt, List, [], ◌∷◌, ◌++◌, All, length, length-append, map, drop, get_or, slice_index_or, if◌then◌else◌, refl, ap, sym, ◌∙◌, subst, arith}
+use Rattle.std.proofs.Common.{◌≡◌, ℕ, suc, ◌==◌, ◌+◌, ◌-◌, ◌<◌, ◌≤◌, ℤ, pos, negsuc, Bool, true, false, nat_lt, List, [], ◌∷◌, ◌++◌, All, length, length-append, map, take, drop, get_or, slice_index_or, if◌then◌else◌, refl, ap, sym, ◌∙◌, subst, arith}
 use Rattle.std.specs.Prelude.{flat_map}
 use Rattle.std.specs.Int.RustNames.{unsigned_abs}
 use Rattle.std.proofs.lemmas.Bool.Decides.{nat_tests}
 use Rattle.std.proofs.lemmas.List.{length-map, map-append, get_or-map, get_or-drop, get_or_append_left, drop-drop}
+use Rattle.std.proofs.lemmas.List.Folds.{length-flat_map-take}
 use Rattle.std.proofs.lemmas.List.Elements.{All-nil, All-cons, All-map, All-append, All-weaker, All-same, All-get_or}
 use Rattle.std.proofs.Math.Seq.{drop-append_seam, drop-cons}
 use Rattle.csr_rows.specs.Rows.{places_from, places_of, row_at}
@@ -168,3 +169,17 @@ pub next_row : (sides : List Side) (table v : ℕ) (d : Side) (next : List ℕ) 
 next_row sides table v d next lt is all =
     let s = get_or sides table d in
     subst (IsRow s.first_edge s.there_first s.there.now) (sym is) (row_kept s v (nat_lt v s.here_first) refl (All-get_or HasRows sides table d lt all))
+
+-- ---- how many arcs the sides have
+
+-- the row of the next side is counted within those of all
+pub row_counted : (v : ℕ) (sides : List Side) (i : ℕ) (s : Side) (row : List ℕ) → i < length sides → s ≡ get_or sides i s → row ≡ side_row s v
+    → length (flat_map (side_arcs v) (take i sides)) + length row ≤ length (flat_map (side_arcs v) sides)
+row_counted v sides i s row lt at is =
+    omega (
+      arith,
+      length-flat_map-take (side_arcs v) sides i s lt,
+      ap (λ x. length (side_arcs v x)) at,
+      length-map (side_row s v) (arc_at s.first_edge s.there_first s.there.now),
+      ap length is,
+    )

@@ -79,6 +79,18 @@ pub(crate) fn arcs_over<'s, 'a>(sides: &'s [Side<'a>], v: u32) -> Arcs<'s, 'a>
     }
 }
 
+/// How many arcs a vertex has on these sides.
+pub(crate) fn degree_over(sides: &[Side<'_>], v: u32) -> u32
+    requires { length (flat_map (side_arcs v) sides.now) ≤ 4194304 }
+    ensures { result ≡ length (flat_map (side_arcs v) sides.now) }
+{
+    let mut count = 0;
+    for side in sides {
+        count += side.row(v).len() as u32;
+    }
+    count
+}
+
 fn arc_of(first_edge: u32, there_first: u32, there: &[i32], place: u32) -> Arc
     requires few { first_edge + length there.now ≤ 4194304 }
     requires ends { All (IsEnd 1048576 there_first) there.now }

@@ -5,7 +5,7 @@ ghost use Rattle.algo_digraph.specs.Arcs.{out_arcs, in_arcs};
 ghost use Rattle.algo_digraph.specs.DigraphOf.{digraph_of, table_sizes};
 
 use crate::VertexOrder;
-use crate::arcs::{Arcs, arcs_over};
+use crate::arcs::{Arcs, arcs_over, degree_over};
 use crate::side::{Side, in_side, out_side};
 use column_types::{List, NoMemory};
 use graph_snap::Snapshot;
@@ -35,7 +35,7 @@ impl<'a> Model for FlatDigraph<'a> {
 
 impl<'a> FlatDigraph<'a> {
     /// The digraph of a snapshot, in the order of its vertices. It takes time and memory in proportion to the number of tables, and
-    /// copies nothing. Want of memory is the only error.
+    /// copies nothing. Running out of memory is the only error.
     pub fn new(
         alloc: Global,
         on: &'a Snapshot,
@@ -99,6 +99,22 @@ impl<'a> FlatDigraph<'a> {
         ensures few { length result ≤ length self.now.edges }
     {
         arcs_over(self.into.as_slice(), v)
+    }
+
+    /// How many edges leave a vertex: no edge is read, only how long its row is in each table.
+    pub fn out_degree(&self, v: u32) -> u32
+        ensures count { result ≡ length (out_arcs self.now v) }
+        ensures few { result ≤ 4194304 }
+    {
+        degree_over(self.out.as_slice(), v)
+    }
+
+    /// How many edges enter a vertex.
+    pub fn in_degree(&self, v: u32) -> u32
+        ensures count { result ≡ length (in_arcs self.now v) }
+        ensures few { result ≤ 4194304 }
+    {
+        degree_over(self.into.as_slice(), v)
     }
 }
 

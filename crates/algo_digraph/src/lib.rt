@@ -8,7 +8,7 @@
 //! * [`VertexOrder`] turns positions of vertices into indexes and back.
 //! * [`FlatDigraph`] is the digraph of a snapshot. Nothing is copied: it lends the snapshot's rows and places, table by table.
 //!   `out_arcs` and `in_arcs` give the edges that leave and enter a vertex, each as an [`Arc`]: its number, and the vertex at its
-//!   other end.
+//!   other end; `out_degree` and `in_degree` say how many these are, and read no edge.
 //! * [`Marks`] has a number or none for each vertex, in four bytes.
 //! * [`is_wide`] says when a level of a search is worth a round of several threads.
 //!

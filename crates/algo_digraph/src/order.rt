@@ -28,7 +28,7 @@ impl Model for VertexOrder {
 }
 
 impl VertexOrder {
-    /// The order of the vertices of a snapshot. Want of memory is the only error.
+    /// The order of the vertices of a snapshot. Running out of memory is the only error.
     pub fn new(alloc: Global, on: &Snapshot) -> Result<VertexOrder, NoMemory>
         ensures { IfOk result (λ order. order ≡ table_sizes on.now) }
     {

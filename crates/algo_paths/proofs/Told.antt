@@ -17,7 +17,7 @@ use Rattle.graph_slots.specs.Meaning.{value_at, edge_prop_values}
 use Rattle.graph_snap.specs.Reading.{edge_keys_at}
 use Rattle.graph_schema.proofs.Sound.{few_edge_props}
 use Rattle.graph_snap.proofs.GraphOf.{edge_widths}
-use Rattle.graph_snap.proofs.SlotAt.{table_at}
+use Rattle.graph_slots.proofs.SlotAt.{table_at}
 use Rattle.graph_snap.proofs.Taken.{few_at}
 
 -- the properties of a table that is there

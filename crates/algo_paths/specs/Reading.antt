@@ -14,7 +14,7 @@ pub record AddsWeights (weight : EdgeRow → Option ℕ) (rows : List EdgeRow) (
   pub are : AreWeights weight rows added
   pub all : new ≡ old ++ added
 
--- a fault of reading is the first edge without a weight, or want of memory
+-- a fault of reading is the first edge without a weight, or out of memory
 abbrev pub ReadCause : GraphData → List ℕ → PathFault → Type 0
 ReadCause g name (BadWeight key) = IsBadEdge g name key
 ReadCause g name NoMemory = Unit {0}

@@ -12,8 +12,9 @@ use graph_snap::Snapshot;
 use std::alloc::Global;
 use std::thread::Threads;
 
-/// For each vertex, in order of indexes, the least sum of weights over all walks to it from the vertex of the key `from`, and
-/// `None` where there is no walk or that sum is above 9,223,372,036,854,775,807. The empty walk has the sum 0. The weights are
+/// For each vertex, in order of indexes, the least sum of weights over all walks to it from the vertex of the key `from` (of
+/// those in several tables the one of least position), and `None` where there is no walk or that sum is above
+/// 9,223,372,036,854,775,807. The empty walk has the sum 0. The weights are
 /// the values of the property `weight` of the edges. The first fault in this order is answered: no vertex has the key; no
 /// edge table has a property of that name with whole numbers; and, by tables and places, the first edge whose value is
 /// negative or NULL, which it is too where its table lacks the property.

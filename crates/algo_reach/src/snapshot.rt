@@ -18,7 +18,7 @@ use std::thread::Threads;
 ///
 /// The list has an entry for each vertex of the graph, by index: table by table, and in a table by places (`VertexOrder` of
 /// `algo_digraph` turns positions into indexes and back). It does not depend on `workers`, the number of threads, from 1 to 64. The
-/// snapshot's own rows are read, and the memory is in proportion to the vertices. Want of memory is the only error.
+/// snapshot's own rows are read, and the memory is in proportion to the vertices. Running out of memory is the only error.
 pub fn hops<R: Threads + Sync>(
     rt: &R,
     alloc: Global,
@@ -43,7 +43,7 @@ pub fn hops<R: Threads + Sync>(
 ///
 /// The list has an entry for each vertex of the graph, by index: table by table, and in a table by places. It does not depend
 /// on `workers`, the number of threads, from 1 to 64. The snapshot's own rows are read, and the memory is in proportion to the
-/// vertices. Want of memory is the only error.
+/// vertices. Running out of memory is the only error.
 pub fn components<R: Threads + Sync>(
     rt: &R,
     alloc: Global,

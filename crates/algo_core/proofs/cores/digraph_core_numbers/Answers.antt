@@ -1,8 +1,9 @@
-use Rattle.std.proofs.Common.{◌≡◌, ◌<◌, ◌≤◌, ◌∙◌, ap, None, Some, [], length, replicate, slice_index, arith}
+use Rattle.std.proofs.Common.{◌≡◌, ℕ, ◌<◌, ◌≤◌, ◌∙◌, ap, true, None, Some, [], length, replicate, slice_index, arith}
 use Rattle.std.proofs.lemmas.List.{get_or-replicate, get_or_default}
+use Rattle.algo_digraph.specs.Cores.{ends_inside}
 use Rattle.algo_core.specs.Peeling.{core_of, is_left}
 use Rattle.algo_core.proofs.Peels.{first_peeling, raised, left_within, left_none, none_left, some_gone, free_before}
-use Rattle.algo_core.proofs.Counts.{ends_few}
+use Rattle.algo_core.proofs.Counts.{all_inside, ends_few}
 use Rattle.algo_core.proofs.Levels.{all_in, all_there, passed, passes, shorter}
 use Rattle.algo_core.proofs.cores.digraph_core_numbers.Goals as goal
 
@@ -11,7 +12,10 @@ levels-init g c =
     let digraph = c.args.digraph.now in
     let n = c.vertex_count-n.ensures.count in
     let cores : c.in_ok-cores.cores ≡ replicate digraph.vertices None = c.in_ok-cores.ensures ∙ ap (λ k. replicate k None) n in
-    let each = rw cores at c.in_ok-ends.ensures.each in
+    let none : (u : ℕ) → u < digraph.vertices → is_left (replicate digraph.vertices None) u ≡ true = λ u lt. none_left _ (get_or-replicate digraph.vertices u None (Some 0) lt) in
+    let each : (v : ℕ) → v < digraph.vertices → is_left (replicate digraph.vertices None) v ≡ true
+    → slice_index c.in_ok-ends.ends v ≡ ends_inside digraph (is_left (replicate digraph.vertices None)) v
+    = λ v lt left. c.in_ok-ends.ensures.each v lt ∙ all_inside digraph (is_left (replicate digraph.vertices None)) v c.vertex_count-n.ensures.closed none lt in
     rw (cores, c.in_ok-left.ensures, n) (record {
       peeling = first_peeling digraph c.in_ok-ends.ends c.in_ok-ends.ensures.len each;
       small = omega arith;
@@ -41,6 +45,11 @@ peel_level-requires-clause-level g c κs within =
 
 pub peel_level-requires-clause-left : goal.peel_level-requires-clause-left
 peel_level-requires-clause-left g c κs within = rw c.as_slice-in-levels-2.ensures (λ v h. (c.levels.invariant.listed v h).0)
+
+pub peel_level-requires-clause-has : goal.peel_level-requires-clause-has
+peel_level-requires-clause-has g c κs within =
+    let inv = c.levels.invariant in
+    rw c.as_slice-in-levels-2.ensures (λ v h. inv.has v (omega (arith, left_within c.levels.cores v h, inv.peeling.long)) (left_none (core_of c.levels.cores v) h))
 
 pub still_left-requires : goal.still_left-requires
 still_left-requires g c =

@@ -21,6 +21,7 @@ returns-clause-least g c =
       property = ap (has_weight c.args.weight.now) (sym edges) ∙ sym c.has_weight.ensures ∙ c.if-not-has_weight.false;
       at = c.in-Some.at;
       start = rw (to_z-of_z w64 _ fits) at c.in-Some.ensures.found;
+      first = rw (to_z-of_z w64 _ fits) at c.in-Some.ensures.least;
       weights = c.in_ok-weights.weights;
       are = c.in_ok-weights.ensures.are;
       least = least_on on c.in-Some.at c.in_ok-found.found c.in_ok-digraph.digraph c.as_slice.result.now c.in_ok-weights.weights c.in_ok-order.order c.index-start.result
