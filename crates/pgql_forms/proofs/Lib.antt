@@ -1,0 +1,6 @@
+mod Dates
+mod Fair
+mod Gives
+mod Trees
+mod Expressions
+mod Queries
