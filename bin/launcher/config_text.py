@@ -35,6 +35,11 @@ class Config:
                 found.append(Table(node, f"{list_name}[{place}]", list_name == "edge_providers"))
         return found
 
+    def has_keys_per_table(self):
+        """Tells whether keys differ within each table alone, which is so under version 2."""
+        version = self.top.get("version")
+        return version is not None and self.text[version.start:version.end] == "2"
+
     def node_at(self, path):
         """Returns the value at a path, such as `vertex_providers[0].props[1].type`, or None."""
         node = self.top

@@ -136,7 +136,7 @@ def rule_of(place):
     """Returns what the value of a field has to be."""
     role = role_of(place)
     return {
-        "version of a configuration": "The version is the number 1, or is left out.",
+        "version of a configuration": "The version is the number 1 or 2, or is left out.",
         "file name": "A file name has 1 to 255 letters, digits, '_', '.', '-' and '/', all ASCII, in double quotes.",
         "name": "A name has 1 to 64 letters, digits and '_', all ASCII, in double quotes; the first is no digit.",
         "list": "A list stands in square brackets.",

@@ -90,8 +90,9 @@ class Fault:
 
     def earlier(self):
         """Gives the tables whose keys this record's key has to differ from, up to its own."""
+        others = not self.config.has_keys_per_table()
         for table in self.config.tables():
-            if table.is_edge == self.table.is_edge:
+            if table.path == self.table.path or (others and table.is_edge == self.table.is_edge):
                 yield table
             if table.path == self.table.path:
                 return
@@ -177,6 +178,8 @@ def explain_twice(fault):
                 it = Explanation(f"{fault.where()}, {fault.column(0)}: the key {key} is that of an earlier {kind}, in "
                                  f"{table.file}, record {record.number} (line {record.line})")
                 fault.mark_field(it, 0)
+                if fault.config.has_keys_per_table():
+                    return it.note("Keys differ within each table. Give one of the two another key.")
                 return it.note(f"Keys differ over all {kind} tables of a configuration. Give one of the two another key.")
     return fault.mark_field(Explanation(f"{fault.where()}: the key {key} stands already"), 0)
 

@@ -2,7 +2,7 @@
 use catalogue::SourceData;
 use column_types::{List, NoMemory, Shared, Steps, Text};
 use graph_model::Graph;
-use graph_schema::{EdgeTable, Schema, VertexTable, all_named, ends_exist};
+use graph_schema::{EdgeTable, Keys, Schema, VertexTable, all_named, ends_exist};
 use graph_snap::Snapshot;
 use std::alloc::Global;
 use std::sync::ledger::Ledger;
@@ -16,7 +16,7 @@ pub fn graph_of_six(alloc: Global) -> Result<Option<Graph>, NoMemory> {
     {
         return Ok(None);
     }
-    match Schema::new(alloc, vertices, edges) {
+    match Schema::new(alloc, Keys::Whole, vertices, edges) {
         Ok(schema) => Ok(Some(Graph::empty(alloc, schema)?)),
         Err(_) => Ok(None),
     }

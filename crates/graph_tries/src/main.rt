@@ -7,6 +7,7 @@
 //! |---|---|
 //! | `V NAME PROP:KIND ..` | a vertex table; KIND is `integer`, `long`, `boolean`, `string` or `local_date` |
 //! | `E NAME SOURCE>DESTINATION PROP:KIND ..` | an edge table |
+//! | `keys per table` | keys differ within each table, and not over all tables |
 //! | `iv,TABLE,KEY,VALUE,..`, `dv,TABLE,KEY`, `sv,TABLE,KEY,PROP,VALUE` | a change of vertices: insert, delete, set |
 //! | `ie,TABLE,KEY,SOURCE,DESTINATION,VALUE,..`, `de,TABLE,KEY`, `se,TABLE,KEY,PROP,VALUE` | a change of edges |
 //! | `put` and one of `iv` and `ie` | the same by the call that takes the values over |
@@ -101,7 +102,7 @@ fn take_part<L: Ledger, R: Threads + Sync>(
     steps: &mut Steps<L>,
     answers: &mut Text,
 ) -> Result<(), NoMemory> {
-    if part.starts_with("V ") || part.starts_with("E ") {
+    if part.starts_with("V ") || part.starts_with("E ") || part == "keys per table" {
         return Ok(());
     }
     if let Some((table, keys)) = range_of(graph.schema(), part) {

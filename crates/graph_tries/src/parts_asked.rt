@@ -4,18 +4,11 @@
 //! |---|---|
 //! | `parts` | for each slot what a part holds: the kind and the values of a column, or the places of the edges at each vertex |
 //! | `keys KEY ..` | how many parts there are, and for each key where a vertex and where an edge has it, as `TABLE.PLACE`, or `-` |
-//! | `alone` | as `parts`, where each part is made alone |
-ghost use Rattle.std.specs.Prelude.{◌≡◌};
-ghost use Rattle.graph_columns.specs.Keys.{vertex_keys};
-
 use crate::graph_asked::{push_name, push_rows};
 use crate::show::{cut, push_comma, push_position, push_value};
 use crate::snapshot_asked::ask_snapshot;
 use column_types::{Column, NoMemory, Shared, Steps, Text};
-use graph_columns::{
-    GraphParts, TableIndex, all_parts, destination_part, edge_key_part, edge_prop_part, into_part,
-    out_part, source_part, vertex_key_part, vertex_prop_part,
-};
+use graph_columns::{GraphParts, TableIndex, all_parts};
 use graph_model::Graph;
 use graph_slots::{Part, SlotName, slot_names};
 use graph_text::push_count;
@@ -34,12 +27,11 @@ pub fn ask_parts<L: Ledger, R: Threads + Sync>(
     let (word, rest) = cut(question, ' ');
     match word {
         "parts" => {
-            let made = all_parts(alloc, graph, steps)?;
+            let made = all_parts(alloc, graph.copy(alloc)?, steps)?;
             parts_text(alloc, graph, made.parts.as_slice())
         }
-        "alone" => alone(alloc, graph, steps),
         "keys" => {
-            let made = all_parts(alloc, graph, steps)?;
+            let made = all_parts(alloc, graph.copy(alloc)?, steps)?;
             keys_text(alloc, &made, rest)
         }
         _ => ask_snapshot(rt, alloc, graph, question, steps),
@@ -69,12 +61,12 @@ fn push_part(
     out.push(" ")?;
     match part.share()? {
         Part::Cells(column) => push_column(alloc, out, column.get()),
-        Part::Rows(rows) => push_rows(out, rows.get(), vertices_at(graph, name)),
+        Part::Rows(rows) => push_rows(out, rows.get(), vertices_at(alloc, graph, name)?),
     }
 }
 
 /// How many vertices the table has at which the edges of a slot of rows end.
-fn vertices_at(graph: &Graph, name: SlotName) -> u32 {
+fn vertices_at(alloc: Global, graph: &Graph, name: SlotName) -> Result<u32, NoMemory> {
     let table = match name {
         SlotName::Out(edges) => graph
             .schema()
@@ -88,9 +80,10 @@ fn vertices_at(graph: &Graph, name: SlotName) -> u32 {
                 .get(edges as usize)
                 .map_or(0, |t| t.destination)
         }
-        _ => return 0,
+        _ => return Ok(0),
     };
-    u32::try_from(graph.vertex_rows(table).len()).unwrap_or(0)
+    let rows = graph.vertex_rows(alloc, table)?;
+    Ok(u32::try_from(rows.len()).unwrap_or(0))
 }
 
 fn push_column(alloc: Global, out: &mut Text, column: &Column) -> Result<(), NoMemory> {
@@ -101,139 +94,6 @@ fn push_column(alloc: Global, out: &mut Text, column: &Column) -> Result<(), NoM
         push_value(alloc, out, column.get(row))?;
     }
     Ok(())
-}
-
-// ---- parts, each made alone
-
-fn alone<L: Ledger>(alloc: Global, graph: &Graph, steps: &mut Steps<L>) -> Result<Text, NoMemory> {
-    let GraphParts { vertices, .. } = all_parts(alloc, graph, steps)?;
-    let names = slot_names(alloc, graph.schema())?;
-    let mut out = Text::new(alloc);
-    for name in names.as_slice() {
-        let made = part_alone(alloc, graph, vertices.as_slice(), *name, steps)?;
-        push_name(alloc, &mut out, *name)?;
-        push_made(alloc, &mut out, graph, *name, made)?;
-    }
-    Ok(out)
-}
-
-fn push_made(
-    alloc: Global,
-    out: &mut Text,
-    graph: &Graph,
-    name: SlotName,
-    made: Option<Part>,
-) -> Result<(), NoMemory> {
-    match made {
-        Some(part) => push_part(alloc, out, graph, name, &part),
-        None => out.push(" none"),
-    }
-}
-
-/// The part of a slot, none where the schema has no such slot.
-fn part_alone<L: Ledger>(
-    alloc: Global,
-    graph: &Graph,
-    vertices: &[Shared<TableIndex>],
-    name: SlotName,
-    steps: &mut Steps<L>,
-) -> Result<Option<Part>, NoMemory>
-    requires { vertices.now ≡ vertex_keys graph.now }
-{
-    match name {
-        SlotName::VertexKey(table) => some(vertex_key_part(alloc, graph, table, steps)),
-        SlotName::EdgeKey(table) => some(edge_key_part(alloc, graph, table, steps)),
-        SlotName::VertexProp(table, prop) => vertex_prop_alone(alloc, graph, table, prop, steps),
-        SlotName::EdgeProp(table, prop) => edge_prop_alone(alloc, graph, table, prop, steps),
-        SlotName::Source(table) | SlotName::Out(table) => {
-            start_alone(alloc, graph, vertices, name, table, steps)
-        }
-        SlotName::Destination(table) | SlotName::Into(table) => {
-            end_alone(alloc, graph, vertices, name, table, steps)
-        }
-    }
-}
-
-fn some(part: Result<Part, NoMemory>) -> Result<Option<Part>, NoMemory> {
-    Ok(Some(part?))
-}
-
-fn vertex_prop_alone<L: Ledger>(
-    alloc: Global,
-    graph: &Graph,
-    table: u32,
-    prop: u32,
-    steps: &mut Steps<L>,
-) -> Result<Option<Part>, NoMemory> {
-    let Some(shape) = graph.schema().vertices().get(table as usize) else {
-        return Ok(None);
-    };
-    match shape.props.get(prop as usize) {
-        Some(found) => some(vertex_prop_part(alloc, graph, table, prop, found.kind, steps)),
-        None => Ok(None),
-    }
-}
-
-fn edge_prop_alone<L: Ledger>(
-    alloc: Global,
-    graph: &Graph,
-    table: u32,
-    prop: u32,
-    steps: &mut Steps<L>,
-) -> Result<Option<Part>, NoMemory> {
-    let Some(shape) = graph.schema().edges().get(table as usize) else {
-        return Ok(None);
-    };
-    match shape.props.get(prop as usize) {
-        Some(found) => some(edge_prop_part(alloc, graph, table, prop, found.kind, steps)),
-        None => Ok(None),
-    }
-}
-
-/// The part of a slot that tells where the edges of a table start.
-fn start_alone<L: Ledger>(
-    alloc: Global,
-    graph: &Graph,
-    vertices: &[Shared<TableIndex>],
-    name: SlotName,
-    table: u32,
-    steps: &mut Steps<L>,
-) -> Result<Option<Part>, NoMemory>
-    requires { vertices.now ≡ vertex_keys graph.now }
-{
-    let Some(shape) = graph.schema().edges().get(table as usize) else {
-        return Ok(None);
-    };
-    let Some(keys) = vertices.get(shape.source as usize) else {
-        return Ok(None);
-    };
-    match name {
-        SlotName::Out(_) => some(out_part(alloc, graph, keys.get(), table, steps)),
-        _ => some(source_part(alloc, graph, keys.get(), table, steps)),
-    }
-}
-
-/// The part of a slot that tells where the edges of a table end.
-fn end_alone<L: Ledger>(
-    alloc: Global,
-    graph: &Graph,
-    vertices: &[Shared<TableIndex>],
-    name: SlotName,
-    table: u32,
-    steps: &mut Steps<L>,
-) -> Result<Option<Part>, NoMemory>
-    requires { vertices.now ≡ vertex_keys graph.now }
-{
-    let Some(shape) = graph.schema().edges().get(table as usize) else {
-        return Ok(None);
-    };
-    let Some(keys) = vertices.get(shape.destination as usize) else {
-        return Ok(None);
-    };
-    match name {
-        SlotName::Into(_) => some(into_part(alloc, graph, keys.get(), table, steps)),
-        _ => some(destination_part(alloc, graph, keys.get(), table, steps)),
-    }
 }
 
 // ---- keys

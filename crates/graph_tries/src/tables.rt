@@ -1,7 +1,9 @@
 //! The tables of a case.
 use crate::show::cut;
 use column_types::{Kind, List, NoMemory, Text};
-use graph_schema::{EdgeTable, Prop, Schema, SchemaFault, VertexTable, all_named, ends_exist};
+use graph_schema::{
+    EdgeTable, Keys, Prop, Schema, SchemaFault, VertexTable, all_named, ends_exist,
+};
 use std::alloc::Global;
 
 /// The place of what is not there.
@@ -16,7 +18,17 @@ pub fn schema_of(alloc: Global, case: &str) -> Result<Option<Schema>, SchemaFaul
     {
         return Ok(None);
     }
-    Ok(Some(Schema::new(alloc, vertices, edges)?))
+    Ok(Some(Schema::new(alloc, keys_of(case), vertices, edges)?))
+}
+
+/// Keys differ within each table where a part of the case says so, and else over all tables.
+fn keys_of(case: &str) -> Keys {
+    for part in case.split(" | ") {
+        if part == "keys per table" {
+            return Keys::PerTable;
+        }
+    }
+    Keys::Whole
 }
 
 fn vertex_tables(alloc: Global, case: &str) -> Result<List<VertexTable>, NoMemory> {

@@ -6,7 +6,7 @@ use std::alloc::Global;
 use std::sync::ledger::Ledger;
 use turn_hall::{Booked, Desk, Served};
 
-/// It answers so many calls with want of memory before it serves one.
+/// It answers so many calls with out of memory before it serves one.
 #[derive(Drop)]
 pub struct Counter {
     pub count: u64,

@@ -67,7 +67,7 @@ fn loaded<R: Threads + Sync>(
     if files.len() != config.files.len() {
         return Text::from_str(alloc, "another number of files");
     }
-    graph_or_fault(rt, alloc, read_tables(alloc, config, files.as_slice()))
+    graph_or_fault(rt, alloc, read_tables(alloc, config, files))
 }
 
 fn files_of(alloc: Global, texts: &str) -> Result<List<List<u8>>, NoMemory> {

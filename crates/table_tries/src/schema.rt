@@ -2,7 +2,7 @@
 use crate::values::{kind_of, word_of};
 use column_types::{List, NoMemory, Text};
 use graph_schema::{
-    EdgeTable, Prop, Schema, SchemaFault, VertexTable, all_named, ends_exist, is_name,
+    EdgeTable, Keys, Prop, Schema, SchemaFault, VertexTable, all_named, ends_exist, is_name,
 };
 use graph_text::push_count;
 use std::alloc::Global;
@@ -34,7 +34,7 @@ fn told(
     if !ends_exist(vertices.as_slice(), edges.as_slice()) {
         return Text::from_str(alloc, "no end");
     }
-    match Schema::new(alloc, vertices, edges) {
+    match Schema::new(alloc, Keys::Whole, vertices, edges) {
         Ok(schema) => shown(alloc, &schema),
         Err(SchemaFault::At { number, path }) => fault(alloc, number, path.as_str()),
         Err(SchemaFault::NoMemory) => Err(NoMemory),

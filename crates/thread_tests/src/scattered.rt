@@ -20,7 +20,7 @@ fn no_places_are_full(alloc: Global) -> Result<bool, AllocError> {
     Ok(buffer.full())
 }
 
-/// A block of no bytes is no want of memory.
+/// A block of no bytes is no out of memory.
 #[test]
 fn a_buffer_without_places_is_full(rt: HostRuntime) -> Result<(), Fail> {
     assert!(rt; no_places_are_full(rt.alloc())?);
