@@ -5,7 +5,8 @@ use Rattle.std.specs.Str.{bytes_eq}
 use Rattle.std.proofs.lemmas.Bool.{eq-eqb}
 use Rattle.std.proofs.lemmas.List.{map_push}
 use Rattle.turn_hall.specs.declared.entry.Entry.{Entry}
-use Rattle.turn_hall.specs.Replay.{entry}
+use Rattle.turn_hall.specs.Replay.{replay, entry}
+use Rattle.turn_hall.proofs.Histories.{replay-append}
 use Rattle.catalogue.specs.declared.ask.Ask.{Ask}
 use Rattle.catalogue.specs.declared.ask.Ask.TheVariants.{OpenSession, CloseSession, Peek, Place, Derive, Release, Columns}
 use Rattle.catalogue.specs.declared.reply.Reply.{Reply}
@@ -15,7 +16,6 @@ use Rattle.catalogue.specs.declared.call.Gift.{Gift}
 use Rattle.catalogue.specs.declared.call.Gift.TheVariants as gift
 use Rattle.catalogue.specs.declared.parts.Held.{Held}
 use Rattle.catalogue.specs.declared.parts.Session.{Session}
-use Rattle.catalogue.specs.declared.parts.SourceData.{SourceData}
 use Rattle.catalogue.specs.State.{Name, State, of_who, named, session_of, held_of, held_in, holds, drop_first}
 use Rattle.catalogue.specs.Step.{Answer, refuse, unless, step, let_go, private_graph, drawn, placed, derived, new_columns}
 use Rattle.catalogue.specs.Gift.{gift_of, snap_gift, held_under}
@@ -26,8 +26,6 @@ use Rattle.catalogue.proofs.Drawing.{find_changed, find_push, session_drawn, hel
 use Rattle.catalogue_hall.specs.declared.held.Named.{Named}
 use Rattle.catalogue_hall.specs.History.{named_of, is_named, held_by}
 use Rattle.catalogue_hall.specs.Told.{held_after}
-use Rattle.catalogue_hall.specs.Kept.{IsKept, history_of}
-use Rattle.catalogue_hall.proofs.Grown.{kept_more}
 
 -- what holds of an answer, where it holds of the refusal and, where the test failed, of what follows
 unless_where : (P : Answer → Type 0) (m : State) (b : Bool) (r : Refusal) (k : Answer) → P (refuse m r) → (b ≡ false → P k) → P (unless m b r k)
@@ -101,12 +99,15 @@ module _ (m : State) (who : ℕ) (sound : IsSound m) where
       ∙ sym (ap (λ (o : Option Session). map named_of (held_in o)) (find_changed (of_who who) (let_go name) s m.sessions (λ x. refl) is))))
   tells Columns = refl
 
-  -- what a call tells its caller is what it holds after the history with that call
-  pub told_is_held : (n : State) (sources : List SourceData) (book : List (Entry Ask Reply)) (ask : Ask) (reply : Reply) (given : Gift) (held : List Named)
-      → IsKept m sources book → step m who ask ≡ (reply, n) → given ≡ gift_of n who ask reply → held ≡ held_by (history_of m book) who
-      → held_after held ask reply given ≡ held_by (history_of n (book ++ entry who ask reply ∷ [])) who
-  told_is_held n sources book ask reply given held kept steps gives is =
-      let later = kept_more m n sources book who ask reply kept steps in
-      let now : held ≡ before = is ∙ ap (λ s. map named_of (holds s who)) (sym kept.state) in
-      let told : held_after before ask reply (gift_of n who ask reply) ≡ map named_of (holds n who) = subst (Tells ask) steps (tells ask) in
-      ap (λ l. held_after l ask reply given) now ∙ ap (held_after before ask reply) gives ∙ told ∙ ap (λ s. map named_of (holds s who)) later.state
+-- what a call tells its caller is what it holds after the history with that call
+pub told_is_held : (start : State) (book : List (Entry Ask Reply)) (who : ℕ) (ask : Ask) (reply : Reply) (given : Gift) (held : List Named)
+    → IsSound (replay step start book) → reply ≡ (step (replay step start book) who ask).0
+    → given ≡ gift_of (replay step start (book ++ entry who ask reply ∷ [])) who ask reply → held ≡ held_by (record { start = start; book = book }) who
+    → held_after held ask reply given ≡ held_by (record { start = start; book = book ++ entry who ask reply ∷ [] }) who
+told_is_held start book who ask reply given held sound replied gives is =
+    let m = replay step start book in
+    let a = step m who ask in
+    let leads : replay step start (book ++ entry who ask reply ∷ []) ≡ a.1 = replay-append step start book (entry who ask reply ∷ []) in
+    let told : held_after (before m who sound) ask reply (gift_of a.1 who ask reply) ≡ map named_of (holds a.1 who)
+    = subst (λ (r : Reply). held_after (before m who sound) ask r (gift_of a.1 who ask r) ≡ map named_of (holds a.1 who)) (sym replied) (tells m who sound ask) in
+    ap (λ l. held_after l ask reply given) is ∙ ap (held_after (before m who sound) ask reply) (gives ∙ ap (λ n. gift_of n who ask reply) leads) ∙ told ∙ ap (λ n. map named_of (holds n who)) (sym leads)

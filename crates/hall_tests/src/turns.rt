@@ -1,4 +1,4 @@
-//! Calls of one thread: by the desk alone, and in a hall through passes.
+//! Calls of one thread: by the desk alone, with its book, and in a hall through passes.
 ghost use Rattle.std.specs.Prelude.{◌≡◌, ◌+◌, ◌<◌, ◌≤◌, ℕ, IsTrue};
 
 use crate::counter::{Counter, counter_at, counts_up_to, entries_under};
@@ -9,7 +9,7 @@ use std::sync::Wait;
 use std::sync::ledger::{Blank, Ledger};
 use std::test::Fail;
 use std::thread::Threads;
-use turn_hall::{Desk, Hall, Pass};
+use turn_hall::{Desk, Hall, OneThread, Pass};
 
 /// The replies to two calls, through the bound alone.
 fn asked_twice<D: Desk<Call = u64, Note = u64, Reply = u64, Gift = ()>, L: Ledger>(
@@ -44,6 +44,28 @@ fn adds_up<L: Ledger, R: Threads + Sync>(
 #[test]
 fn calls_are_added_one_by_one(rt: HostRuntime) -> Result<(), Fail> {
     assert!(rt; adds_up::<Brand, _>(&rt, rt.alloc(), Blank::new(1))?);
+    Ok(())
+}
+
+/// Whether the calls of one thread stand in its book under their callers, and one that finds no memory does not.
+fn keeps_a_book<R: Threads + Sync>(rt: &R, alloc: Global) -> Result<bool, NoMemory> {
+    let desk = Counter {
+        count: 0,
+        refusals: 1,
+    };
+    let mut counter = OneThread::new(alloc, desk);
+    let starved = counter.call(rt, alloc, 1, 5).is_err();
+    let first = counter.call(rt, alloc, 1, 5)?;
+    let second = counter.call(rt, alloc, 7, 10)?;
+    let replied = first.0 == 5 && second.0 == 15 && counter.desk().count == 15;
+    let book = counter.book();
+    let kept = book.len() == 2 && book[0].who == 1 && book[1].who == 7 && book[1].reply == 15;
+    Ok(starved && replied && kept)
+}
+
+#[test]
+fn one_thread_keeps_a_book(rt: HostRuntime) -> Result<(), Fail> {
+    assert!(rt; keeps_a_book(&rt, rt.alloc())?);
     Ok(())
 }
 

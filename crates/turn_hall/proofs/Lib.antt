@@ -12,3 +12,4 @@ pub mod Owns
 pub mod Calling
 pub mod Closing
 pub mod Passing
+pub mod OneThreadReplies

@@ -4,3 +4,4 @@ pub mod Queue
 pub mod Rule
 pub mod Steps
 pub mod Handle
+pub mod OneThread

@@ -46,6 +46,12 @@ impl<D: Desk> Booked<D> {
         self.book.as_slice()
     }
 
+    pub(crate) fn desk(&self) -> &D
+        ensures { result.now ≡ self.now.desk }
+    {
+        &self.desk
+    }
+
     /// What every book keeps: it is legal from the opening state, and leads to the desk's state.
     pub fn sound(&self)
         ensures legal { IsLegal D.step (D.opening (D.state self.now.desk)) self.now.book }

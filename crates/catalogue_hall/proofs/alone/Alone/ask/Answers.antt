@@ -1,43 +1,50 @@
-use Rattle.std.proofs.Common.{◌≡◌, ◌∙◌, ◌++◌, ◌∷◌, [], length, ◌<◌, refl, sym, subst}
-use Rattle.turn_hall.specs.Replay.{entry}
+use Rattle.std.proofs.Common.{◌≡◌, ◌∙◌, ◌++◌, ◌∷◌, [], length, ◌<◌, ◌-◌, get_or, sym, ap, subst}
+use Rattle.turn_hall.specs.Replay.{replay, entry}
+use Rattle.turn_hall.proofs.Grown.{grown_state}
+use Rattle.catalogue.specs.declared.reply.Reply.{Reply}
+use Rattle.catalogue.specs.State.{State}
+use Rattle.catalogue.specs.Step.{step}
 use Rattle.catalogue.specs.Bound.{opening, IsReady}
+use Rattle.catalogue.specs.Gift.{gift_of}
+use Rattle.catalogue.specs.Kept.{IsKept as IsSound}
 use Rattle.catalogue.specs.Desk.{calls_get_ready}
 use Rattle.catalogue_hall.specs.History.{History, held_by}
 use Rattle.catalogue_hall.specs.Told.{held_after}
-use Rattle.catalogue_hall.proofs.Grown.{kept_more, same_start}
 use Rattle.catalogue_hall.proofs.Holding.{told_is_held}
+use Rattle.catalogue_hall.proofs.LastCall.{last_put}
 use Rattle.catalogue_hall.proofs.alone.Alone.ask.Goals as goal
 
-pub served-requires-clause-ready : goal.served-requires-clause-ready
-served-requires-clause-ready g c κs within =
-    let kept = c.self.invariant in
+pub call-requires-clause-ready : goal.call-requires-clause-ready
+call-requires-clause-ready g c κs within =
     let few = subst (λ (h : History). length h.book < 33554432) (sym c.self.view_is) c.requires.calls in
-    subst IsReady (sym kept.state) (calls_get_ready (opening c.self.inside.catalogue) c.self.inside.book.items kept.history.opening kept.history.small few)
-
-pub invariant_of-self-2 : goal.invariant_of-self-2
-invariant_of-self-2 g c =
-    let book = c.self.inside.book.items in
-    let who = c.args.who in
-    let reply = c.in_ok-note.field-0.reply in
-    let longer : c.put.new.items.items ≡ book ++ entry who c.args.ask reply ∷ [] = cc (c.put.ensures, c.in_ok-reserve.ensures.items, c.in_ok-note.ensures.note, c.in_ok-note.ensures.kept) in
-    rw longer (kept_more c.self.inside.catalogue c.served.new.catalogue c.self.inside.sources book who c.args.ask reply c.self.invariant c.in_ok-note.ensures.step)
-
-pub returns-clause-book : goal.returns-clause-book
-returns-clause-book g c =
-    let book = c.self.inside.book.items in
-    let who = c.args.who in
-    let reply = c.in_ok-note.field-0.reply in
-    let longer : c.put.new.items.items ≡ book ++ entry who c.args.ask reply ∷ [] = cc (c.put.ensures, c.in_ok-reserve.ensures.items, c.in_ok-note.ensures.note, c.in_ok-note.ensures.kept) in
-    rw (← c.self.view_is, longer, same_start c.self.inside.catalogue c.served.new.catalogue c.self.inside.sources book who c.args.ask reply c.self.invariant c.in_ok-note.ensures.step) refl
+    let m = c.self.inside.calls.desk in
+    subst IsReady c.sound.ensures.state (calls_get_ready (opening m) c.self.inside.calls.book c.sound.ensures.opening c.self.invariant.small few)
 
 pub returns-clause-held : goal.returns-clause-held
 returns-clause-held g c =
-    let book = c.self.inside.book.items in
+    let before = c.self.inside.calls.desk in
+    let after = c.call.new.self.desk in
+    let start = opening before in
+    let book = c.self.inside.calls.book in
     let who = c.args.who in
-    let reply = c.in_ok-note.field-0.reply in
-    let longer : c.put.new.items.items ≡ book ++ entry who c.args.ask reply ∷ [] = cc (c.put.ensures, c.in_ok-reserve.ensures.items, c.in_ok-note.ensures.note, c.in_ok-note.ensures.kept) in
-    let told : c.told.new.graphs.items ≡ held_after c.args.held.now c.args.ask reply c.in_ok-note.field-0.gift
-    = cc (c.told.ensures, c.in_ok-reserve-2.ensures.items, c.held.view_is, c.in_ok-note.ensures.note) in
+    let ask = c.args.ask in
+    let reply = c.in_ok-reply.reply in
+    let given = c.in_ok-reply.gift in
+    let h = c.in_ok-reply.ensures in
+    let longer = book ++ entry who ask reply ∷ [] in
+    let at = c.index-book-number.result in
+    let last : at ≡ entry who ask reply
+    = c.index-book-number.is ∙ subst (λ b. get_or b (length b - 1) at ≡ entry who ask reply) (sym (c.book-book.ensures ∙ h.book)) (last_put book (entry who ask reply) at) in
+    let noted : at.note ≡ ask = ap (λ e. e.note) last in
+    let told : c.apply_reply.new.graphs.items ≡ held_after c.args.held.now ask reply given
+    = cc (c.apply_reply.ensures, c.in_ok-reserve.ensures.items, c.held.view_is, noted) in
+    let led : replay step start book ≡ before = c.sound.ensures.state in
+    let stepped : step before who ask ≡ (reply, after) = h.step in
+    let leads : replay step start longer ≡ after = grown_state step start before after who ask reply book stepped led in
+    let gives : given ≡ gift_of (replay step start longer) who ask reply
+    = h.gift ∙ ap (λ (s : State). gift_of s who ask reply) (sym leads) in
+    let replied : reply ≡ (step (replay step start book) who ask).0
+    = ap (λ (z : Reply × State). z.0) (sym stepped) ∙ ap (λ (s : State). (step s who ask).0) (sym led) in
     let held = subst (λ (h : History). c.args.held.now ≡ held_by h who) (sym c.self.view_is) c.requires.held in
-    rw longer (told ∙ told_is_held c.self.inside.catalogue who c.sound.ensures c.served.new.catalogue c.self.inside.sources book c.args.ask reply c.in_ok-note.field-0.gift c.args.held.now
-    c.self.invariant c.in_ok-note.ensures.step c.in_ok-note.ensures.gift held)
+    let sound : IsSound (replay step start book) = subst IsSound (c.desk.ensures ∙ sym led) c.sound-2.ensures in
+    rw (h.opening, h.book) (told ∙ told_is_held start book who ask reply given c.args.held.now sound replied gives held)
