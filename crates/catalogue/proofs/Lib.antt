@@ -6,10 +6,13 @@ pub mod Limits
 pub mod Numbers
 pub mod Drawing
 pub mod Others
-pub mod Columns
 pub mod Own
 pub mod Refusals
 pub mod Prefixes
 pub mod Ids
 pub mod Rising
 pub mod Names
+pub mod Uses
+pub mod Apart
+pub mod Keys
+pub mod Coming

@@ -1,9 +1,10 @@
 -- What the catalogue keeps, kept by each change of the state.
-use Rattle.std.proofs.Common.{◌≡◌, ℕ, ◌+◌, ◌<◌, ◌≤◌, ◌++◌, List, [], ◌∷◌, None, sym, subst, arith, length, length-append, refl, find}
+use Rattle.std.proofs.Common.{◌≡◌, ℕ, ◌+◌, ◌^◌, ◌<◌, ◌≤◌, ◌++◌, List, [], ◌∷◌, None, sym, subst, arith, length, length-append, refl, find}
 use Rattle.std.proofs.lemmas.Bool.{eqb-true}
 use Rattle.catalogue.specs.declared.parts.SourceData.{SourceData}
 use Rattle.catalogue.specs.declared.parts.Source.{Source}
 use Rattle.catalogue.specs.declared.parts.Snap.{Snap}
+use Rattle.catalogue.specs.declared.parts.Line.{Line}
 use Rattle.catalogue.specs.declared.parts.Held.{Held}
 use Rattle.catalogue.specs.declared.parts.Session.{Session}
 use Rattle.catalogue.specs.State.{Name, State, of_who, named, session_of, change_first, drop_first}
@@ -22,6 +23,8 @@ pub opened_kept : (sources : List SourceData) → IsKept (opened sources)
 opened_kept sources = record {
   few_sessions = omega arith;
   one_each = λ who. omega arith;
+  few_lines = omega arith;
+  few_snaps = each_none (λ (l : Line). length l.snaps ≤ 2 ^ 32);
   few_held = each_none IsFew;
   first = omega arith;
   numbered = each_none (IsNumbered 1);
@@ -43,6 +46,8 @@ module _ (m : State) (who : ℕ) (kept : IsKept m) where
   one_more_kept few none = record {
     few_sessions = omega (arith, few, length-append m.sessions (record { who = who; held = [] } ∷ []));
     one_each = λ w. one_more_each (of_who w) m.sessions (record { who = who; held = [] }) (kept.one_each w) (λ same. subst (λ k. find (of_who k) m.sessions ≡ None) (eqb-true who w same) none);
+    few_lines = kept.few_lines;
+    few_snaps = kept.few_snaps;
     few_held = each_push IsFew m.sessions (record { who = who; held = [] }) kept.few_held (omega arith);
     first = kept.first;
     numbered = each_root Numbered m.lines (m.sessions ++ record { who = who; held = [] } ∷ []) lines
@@ -55,6 +60,8 @@ module _ (m : State) (who : ℕ) (kept : IsKept m) where
   closed_kept = record {
     few_sessions = omega (arith, kept.few_sessions, length-drop_first (of_who who) m.sessions);
     one_each = λ w. omega (arith, kept.one_each w, count_dropped (of_who w) (of_who who) m.sessions);
+    few_lines = kept.few_lines;
+    few_snaps = kept.few_snaps;
     few_held = each_dropped IsFew (of_who who) m.sessions kept.few_held;
     first = kept.first;
     numbered = each_root Numbered m.lines (drop_first (of_who who) m.sessions) lines (each_dropped (λ s. Each (λ h. Numbered h.snap) s.held) (of_who who) m.sessions sessions);
@@ -66,6 +73,8 @@ module _ (m : State) (who : ℕ) (kept : IsKept m) where
   released_kept name = record {
     few_sessions = subst (λ n. n ≤ 64) (sym (length-change_first (of_who who) (let_go name) m.sessions)) kept.few_sessions;
     one_each = λ w. subst (λ n. n ≤ 1) (sym (count_changed (of_who w) (of_who who) (let_go name) (λ s. refl) m.sessions)) (kept.one_each w);
+    few_lines = kept.few_lines;
+    few_snaps = kept.few_snaps;
     few_held = each_changed IsFew (of_who who) (let_go name) (λ s few. omega (arith, few, length-drop_first (named name) s.held)) m.sessions kept.few_held;
     first = kept.first;
     numbered = each_root Numbered m.lines (change_first (of_who who) (let_go name) m.sessions) lines
@@ -89,6 +98,8 @@ module _ (m : State) (who : ℕ) (kept : IsKept m) where
     drawn_kept = record {
       few_sessions = subst (λ n. n ≤ 64) (sym (length-change_first (of_who who) (hold_more h) m.sessions)) kept.few_sessions;
       one_each = λ w. subst (λ n. n ≤ 1) (sym (count_changed (of_who w) (of_who who) (hold_more h) (λ s. refl) m.sessions)) (kept.one_each w);
+      few_lines = kept.few_lines;
+      few_snaps = kept.few_snaps;
       few_held = each_found IsFew (of_who who) (hold_more h) may.session m.sessions may.is (omega (arith, may.room, length-append may.session.held (h ∷ []))) kept.few_held;
       first = omega (arith, kept.first);
       numbered = each_root Later m.lines (change_first (of_who who) (hold_more h) m.sessions) (λ l j b k. later b (lines l j b k))

@@ -18,7 +18,7 @@ use Rattle.catalogue.proofs.Lists.{Each, here, there, cases, in_none, each_none,
 -- ---- rising lists
 
 -- each number is below all later ones
-abbrev Rises : List ℕ → Type 0
+abbrev pub Rises : List ℕ → Type 0
 Rises [] = ⊤
 Rises (x ∷ xs) = Each (λ y. x < y) xs × Rises xs
 
@@ -77,7 +77,7 @@ rises_inserted k [] rising = (each_none (λ y. k < y), tt)
 rises_inserted k (x ∷ xs) rising =
     rises_at k x xs (nat_cmp k x) refl rising (rises_inserted k xs rising.1) (λ y h. above_of k x y xs rising.0 (from_insert k xs y h))
 
-rises_put : (found columns : List ℕ) → Rises found → Rises (put_all found columns)
+pub rises_put : (found columns : List ℕ) → Rises found → Rises (put_all found columns)
 rises_put found [] rising = rising
 rises_put found (c ∷ columns) rising = rises_put (insert_key nat_cmp found c) columns (rises_inserted c found rising)
 
@@ -120,7 +120,7 @@ has_at : (c k : ℕ) (ks : List ℕ) (b : Bool) → (k == c) ≡ b → (list_any
 has_at c k ks true e ih h = subst (Contains (k ∷ ks)) (eqb-true k c e) (here k ks)
 has_at c k ks false e ih h = there c k ks (ih (rw e at h))
 
-column_in : (c : ℕ) (ks : List ℕ) → list_any (λ j. j == c) ks ≡ true → Contains ks c
+pub column_in : (c : ℕ) (ks : List ℕ) → list_any (λ j. j == c) ks ≡ true → Contains ks c
 column_in c [] h = absurd (cc)
 column_in c (k ∷ ks) h = has_at c k ks (k == c) refl (column_in c ks) h
 
@@ -129,7 +129,7 @@ any_at c k ks true e h ih = rw e refl
 any_at c k ks false e (inl q) ih = let yes = eq-eqb k c q in absurd (cc)
 any_at c k ks false e (inr h) ih = rw e (ih h)
 
-column_found : (c : ℕ) (ks : List ℕ) → Contains ks c → list_any (λ j. j == c) ks ≡ true
+pub column_found : (c : ℕ) (ks : List ℕ) → Contains ks c → list_any (λ j. j == c) ks ≡ true
 column_found c [] h = absurd (in_none c h)
 column_found c (k ∷ ks) h = any_at c k ks (k == c) refl (cases c k ks h) (column_found c ks)
 

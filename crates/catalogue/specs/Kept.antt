@@ -1,6 +1,7 @@
 -- What the catalogue keeps.
-use Rattle.std.specs.Prelude.{◌≡◌, ℕ, ◌+◌, ◌<◌, ◌≤◌, ◌==◌, length, count_by, Contains, Some, None}
+use Rattle.std.specs.Prelude.{◌≡◌, ℕ, ◌+◌, ◌^◌, ◌<◌, ◌≤◌, ◌==◌, length, count_by, Contains, Some, None}
 use Rattle.graph_slots.specs.Slots.{slots}
+use Rattle.catalogue.specs.declared.parts.Line.{Line}
 use Rattle.catalogue.specs.declared.parts.Source.{Source}
 use Rattle.catalogue.specs.declared.parts.Snap.{Snap}
 use Rattle.catalogue.specs.declared.parts.Session.{Session}
@@ -16,6 +17,8 @@ pub record IsNumbered (next : ℕ) (s : Snap) : Type 0 where
 pub record IsKept (m : State) : Type 0 where
   pub few_sessions : length m.sessions ≤ 64
   pub one_each : (who : ℕ) → count_by (of_who who) m.sessions ≤ 1
+  pub few_lines : length m.lines ≤ 256
+  pub few_snaps : (l : Line) → Contains m.lines l → length l.snaps ≤ 2 ^ 32
   pub few_held : (s : Session) → Contains m.sessions s → length s.held ≤ 256
   pub first : 1 ≤ m.next_column
   pub numbered : (b : Snap) → Contains (roots m) b → IsNumbered m.next_column b

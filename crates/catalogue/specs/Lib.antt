@@ -3,6 +3,7 @@ pub mod Step
 pub mod Gift
 pub mod Bound
 pub mod Kept
+pub mod Registry
 pub mod Response
 pub mod Desk
 pub mod Law

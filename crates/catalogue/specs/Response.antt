@@ -1,10 +1,13 @@
 -- How a call ends.
-use Rattle.std.specs.Prelude.{◌≡◌, ℕ, Result, Ok, Err, ⊤}
+use Rattle.std.specs.Prelude.{◌≡◌, ◌≢◌, ℕ, Result, Ok, Err, ⊤}
 use Rattle.column_types.specs.declared.fault.NoMemory.{NoMemory}
 use Rattle.catalogue.specs.declared.ask.Ask.{Ask}
+use Rattle.catalogue.specs.declared.ask.Ask.TheVariants.{OpenSession, CloseSession, Peek, Place, Derive, Release, Columns as Lists}
 use Rattle.catalogue.specs.declared.call.Gift.TheVariants as gift
-use Rattle.catalogue.specs.declared.reply.Reply.TheVariants.{Done, Sid, Refused}
+use Rattle.catalogue.specs.declared.reply.Reply.{Reply}
+use Rattle.catalogue.specs.declared.reply.Reply.TheVariants.{Done, Front, Sid, Columns, Refused}
 use Rattle.catalogue.specs.declared.reply.Refusal.{Refusal}
+use Rattle.catalogue.specs.declared.reply.Refusal.TheVariants.{SessionsFull, NoSource, NameTaken, GraphsFull, NoName, NotVisible, NotOpen, AlreadyOpen}
 use Rattle.catalogue.specs.declared.response.Fault.{Fault}
 use Rattle.catalogue.specs.declared.response.Fault.TheVariants as fault
 use Rattle.catalogue.specs.declared.response.Response.{Response}
@@ -41,8 +44,48 @@ TellsRefusal (fault.Refused r) (Err e) = ⊤
 TellsRefusal fault.NoMemory (Ok response) = ⊥
 TellsRefusal fault.NoMemory (Err e) = ⊤
 
--- the tests of a call end with what it goes on with, or with the step's refusal; memory may run out anywhere
+-- whether the tests of a call take memory where this is its answer: a refusal takes some where it hands on a name; where the call
+-- is just done they take none; else they may take some, for what the reply tells or brings
+abbrev pub RefusalTakesMemory : Refusal → Type 0
+RefusalTakesMemory SessionsFull = ⊥
+RefusalTakesMemory (NoSource name) = ⊤
+RefusalTakesMemory (NameTaken name) = ⊤
+RefusalTakesMemory GraphsFull = ⊥
+RefusalTakesMemory (NoName name) = ⊤
+RefusalTakesMemory (NotVisible n) = ⊥
+RefusalTakesMemory NotOpen = ⊥
+RefusalTakesMemory AlreadyOpen = ⊥
+
+abbrev pub TakesMemory : Reply → Type 0
+TakesMemory Done = ⊥
+TakesMemory (Front n) = ⊤
+TakesMemory (Sid n) = ⊤
+TakesMemory (Columns numbers) = ⊤
+TakesMemory (Refused r) = RefusalTakesMemory r
+
+-- the tests of a call end with what it goes on with, or with the step's refusal; memory runs out only where the answer takes some
 abbrev pub Tests : {X : Type 0} → State → Answer → (X → Answer) → Result X Fault → Type 0
 Tests m answer next (Ok x) = answer ≡ next x
 Tests m answer next (Err (fault.Refused r)) = answer ≡ (Refused r, m)
-Tests m answer next (Err fault.NoMemory) = ⊤
+Tests m answer next (Err fault.NoMemory) = TakesMemory answer.0
+
+-- tests that take no memory
+abbrev pub TestsSurely : {X : Type 0} → State → Answer → (X → Answer) → Result X Refusal → Type 0
+TestsSurely m answer next (Ok x) = answer ≡ next x
+TestsSurely m answer next (Err r) = answer ≡ (Refused r, m)
+
+-- ---- calls that take no memory where they are done
+
+-- a call that gives up graphs
+abbrev pub GivesUp : Ask → Type 0
+GivesUp OpenSession = ⊥
+GivesUp CloseSession = ⊤
+GivesUp (Peek source) = ⊥
+GivesUp (Place name source front) = ⊥
+GivesUp (Derive name base how) = ⊥
+GivesUp (Release name) = ⊤
+GivesUp Lists = ⊥
+
+-- memory does not run out in a call that gives up graphs and is done
+abbrev pub RunsOut : State → ℕ → Ask → Type 0
+RunsOut m who ask = GivesUp ask → (step m who ask).0 ≢ Done

@@ -1,23 +1,30 @@
 //! The catalogue.
-ghost use Rattle.std.specs.Prelude.{◌≡◌, ℕ, ◌+◌, ◌≤◌, ◌<◌, ◌^◌, IfOk, OnOk, OnErr, IsTrue, ◌↔◌, length, map, find, Some, None, position, Contains};
+ghost use Rattle.std.specs.Prelude.{◌≡◌, ℕ, ◌+◌, ◌≤◌, ◌<◌, ◌^◌, IfOk, OnOk, OnErr, IsTrue, ◌↔◌, length, map, find, Some, None, position, Contains, []};
 ghost use Rattle.std.specs.Option.{option_copied};
 ghost use Rattle.std.specs.List.{All, range_with_len};
 ghost use Rattle.graph_slots.specs.Slots.{slots};
 ghost use Rattle.catalogue.specs.declared.ask.Ask.{Ask};
 ghost use Rattle.catalogue.specs.declared.parts.Session.{Session as SessionData};
 ghost use Rattle.catalogue.specs.declared.reply.Reply.TheVariants.{Sid, Done};
-ghost use Rattle.catalogue.specs.State.{named, of_who, session_of, source_of, change_first, drop_first};
+ghost use Rattle.catalogue.specs.State.{named, of_who, session_of, source_of, change_first, roots, drop_first, reach, count};
 ghost use Rattle.catalogue.specs.Step.{step, hold_more, let_go, placed, derived, new_columns, private_graph, drawn, with_one_more, without_session, with_session};
 ghost use Rattle.catalogue.specs.Bound.{unfed, opened, HasSmall, IsReady, NamesDiffer};
 ghost use Rattle.catalogue.specs.Kept.{IsKept, MayHold};
-ghost use Rattle.catalogue.specs.Response.{IsServed, Tests, sid_response};
+ghost use Rattle.column_reclaim.specs.Registry.{ids_of, count_of};
+ghost use Rattle.catalogue.specs.declared.parts.Snap.{Snap as SnapData};
+ghost use Rattle.catalogue.specs.Registry.{Comes, HasParts};
+ghost use Rattle.catalogue.specs.Response.{IsServed, RunsOut, Tests, TestsSurely, sid_response};
 
-use crate::reach::reached;
+use crate::columns::{count_columns, listed, release_graphs, release_snap, shared_parts};
 use crate::response::{Fault, Response, done, name_taken, no_name, no_source, refused};
+use crate::sessions::{Sessions, held_as};
+use crate::sources::Sources;
 use crate::{
     Gift, Held, Hold, How, Line, Mutation, Refusal, Reply, Session, Snap, Source, SourceData,
 };
+use column_reclaim::{Registry, RegistryRow};
 use column_types::{List, NoMemory, Shared, Text};
+use graph_slots::Part;
 use std::alloc::Global;
 use std::marker::Model;
 
@@ -30,100 +37,28 @@ const MOST_HELD: usize = 256;
 /// The sources, the published graphs and the sessions with the graphs that they hold. What it keeps is `IsKept`.
 #[derive(Drop)]
 pub struct Catalogue {
-    sources: List<Source>,
+    sources: Sources,
     lines: List<Line>,
-    sessions: List<Session>,
+    sessions: Sessions,
     next_sid: u64,
     next_column: u64,
+    registry: Registry<Part>,
 }
 
 impl Model for Catalogue {
     ghost use Rattle.catalogue.specs.State.{State};
+    ghost use Rattle.catalogue.specs.State.{roots_of};
     ghost use Rattle.catalogue.specs.Kept.{IsKept};
+    ghost use Rattle.catalogue.specs.Registry.{IsRegistry};
 
     ghost Value = { State };
 
     ghost view = { λ c. record { sources = c.sources; lines = c.lines; sessions = c.sessions; next_sid = c.next_sid; next_column = c.next_column } };
 
-    ghost invariant = { λ c. IsKept (record { sources = c.sources; lines = c.lines; sessions = c.sessions; next_sid = c.next_sid; next_column = c.next_column }) };
-}
-
-/// The sources, none of whose changes are to be seen yet.
-fn unfed_sources(alloc: Global, sources: &[Shared<SourceData>]) -> Result<List<Source>, NoMemory>
-    ensures sources { IfOk result (λ made. made ≡ map unfed sources.now) }
-    ensures small { OnOk result (All (λ d. length (slots d.opening.schema) ≤ 2208) sources.now) }
-{
-    let mut made = List::new(alloc);
-    for source in sources {
-        let _slots = source.get().opening.slot_count();
-        made.push(Source {
-            data: source.share()?,
-            visible: 0,
-        })?;
-    }
-    Ok(made)
-}
-
-fn session_place(sessions: &[Session], who: u32) -> Option<usize>
-    ensures { result ≡ position (of_who who) sessions.now }
-{
-    sessions.iter().position(|session| session.who == who)
-}
-
-fn held_place(held: &[Held], name: &Text) -> Option<usize>
-    ensures { result ≡ position (named name.now) held.now }
-{
-    held.iter()
-        .position(|graph| graph.name.as_str() == name.as_str())
-}
-
-/// The graph of that name.
-fn held_as<'a>(held: &'a [Held], name: &Text) -> Option<&'a Held>
-    ensures { option_copied result ≡ find (named name.now) held.now }
-{
-    held.iter()
-        .find(|graph| graph.name.as_str() == name.as_str())
-}
-
-/// The session of the caller holds one more graph.
-fn hold(sessions: &mut List<Session>, who: u32, held: Held) -> Result<(), NoMemory>
-    ensures ok { OnOk result (sessions.new ≡ change_first (of_who who) (hold_more held) sessions.old) }
-    ensures err { OnErr result (sessions.new ≡ sessions.old) }
-{
-    match session_place(sessions.as_slice(), who) {
-        Some(place) => sessions.as_mut_slice()[place].held.push(held),
-        None => Ok(()),
-    }
-}
-
-/// The session gives up the graph of that name.
-fn drop_held(held: &mut List<Held>, name: &Text)
-    requires { length held.old ≤ 256 }
-    ensures { held.new ≡ drop_first (named name.now) held.old }
-{
-    if let Some(place) = held_place(held.as_slice(), name) {
-        held.remove(place as u32);
-    }
-}
-
-/// The session of the caller gives up the graph of that name.
-fn let_go_of(sessions: &mut List<Session>, who: u32, name: &Text)
-    requires { (s : SessionData) → Contains sessions.old s → length s.held ≤ 256 }
-    ensures { sessions.new ≡ change_first (of_who who) (let_go name.now) sessions.old }
-{
-    if let Some(place) = session_place(sessions.as_slice(), who) {
-        drop_held(&mut sessions.as_mut_slice()[place].held, name);
-    }
-}
-
-/// The session of the caller goes.
-fn drop_session(sessions: &mut List<Session>, who: u32)
-    requires { length sessions.old ≤ 64 }
-    ensures { sessions.new ≡ drop_first (of_who who) sessions.old }
-{
-    if let Some(place) = session_place(sessions.as_slice(), who) {
-        sessions.remove(place as u32);
-    }
+    ghost invariant = { λ c. record {
+      kept : IsKept (record { sources = c.sources; lines = c.lines; sessions = c.sessions; next_sid = c.next_sid; next_column = c.next_column });
+      registry : IsRegistry c.registry.rows (roots_of c.lines c.sessions);
+    } };
 }
 
 /// So many numbers from the first on.
@@ -161,13 +96,14 @@ impl Catalogue {
         ensures opened { IfOk result (λ c. c ≡ opened sources) }
         ensures small { OnOk result (HasSmall (opened sources)) }
     {
-        let sources = unfed_sources(alloc, sources.as_slice())?;
+        let sources = Sources::unfed(alloc, sources.as_slice())?;
         Ok(Catalogue {
             sources,
             lines: List::new(alloc),
-            sessions: List::new(alloc),
+            sessions: Sessions::new(alloc),
             next_sid: 1,
             next_column: 1,
+            registry: Registry::new(alloc),
         })
     }
 
@@ -189,35 +125,29 @@ impl Catalogue {
     fn session(&self, who: u32) -> Option<&Session>
         ensures { option_copied result ≡ session_of self.now who }
     {
-        self.sessions
-            .as_slice()
-            .iter()
-            .find(|session| session.who == who)
+        self.sessions.of(who)
     }
 
     /// The source of that name.
     fn source(&self, name: &Text) -> Option<&Source>
         ensures { option_copied result ≡ source_of self.now name.now }
     {
-        self.sources
-            .as_slice()
-            .iter()
-            .find(|source| source.data.get().name.as_str() == name.as_str())
+        self.sources.named(name)
     }
 
     // ---- sessions
 
     #[tactic(auto, unfolding(crate::specs::Step::unless))]
-    fn test_open(&self, who: u32) -> Result<(), Fault>
+    fn test_open(&self, who: u32) -> Result<(), Refusal>
         ensures room { OnOk result (length self.now.sessions < 64) }
         ensures new { OnOk result (session_of self.now who ≡ None) }
-        ensures tests { Tests self.now (step self.now who Ask.OpenSession) (λ _. (Done, with_one_more self.now who)) result }
+        ensures tests { TestsSurely self.now (step self.now who Ask.OpenSession) (λ _. (Done, with_one_more self.now who)) result }
     {
         if self.session(who).is_some() {
-            return Err(Fault::Refused(Refusal::AlreadyOpen));
+            return Err(Refusal::AlreadyOpen);
         }
         if self.sessions.len() >= MOST_SESSIONS {
-            return Err(Fault::Refused(Refusal::SessionsFull));
+            return Err(Refusal::SessionsFull);
         }
         Ok(())
     }
@@ -228,20 +158,19 @@ impl Catalogue {
     {
         match self.test_open(who) {
             Ok(()) => {
-                let held = List::new(alloc);
-                self.sessions.push(Session { who, held })?;
+                self.sessions.open(alloc, who)?;
                 Ok(done())
             }
-            Err(fault) => refused(fault),
+            Err(refusal) => refused(Fault::Refused(refusal)),
         }
     }
 
     #[tactic(auto, unfolding(crate::specs::Step::given))]
-    fn test_close(&self, who: u32) -> Result<(), Fault>
-        ensures { Tests self.now (step self.now who Ask.CloseSession) (λ _. (Done, without_session self.now who)) result }
+    fn test_close(&self, who: u32) -> Result<(), Refusal>
+        ensures { TestsSurely self.now (step self.now who Ask.CloseSession) (λ _. (Done, without_session self.now who)) result }
     {
         if self.session(who).is_none() {
-            return Err(Fault::Refused(Refusal::NotOpen));
+            return Err(Refusal::NotOpen);
         }
         Ok(())
     }
@@ -249,13 +178,16 @@ impl Catalogue {
     pub(crate) fn close_session(&mut self, who: u32) -> Result<Response, NoMemory>
         ensures ok { IfOk result (IsServed self.old who Ask.CloseSession self.new) }
         ensures err { OnErr result (self.new ≡ self.old) }
+        ensures surely { OnErr result (RunsOut self.old who Ask.CloseSession) }
     {
         match self.test_close(who) {
             Ok(()) => {
-                drop_session(&mut self.sessions, who);
+                if let Some(session) = self.sessions.close(who) {
+                    release_graphs(&mut self.registry, session.held.as_slice());
+                }
                 Ok(done())
             }
-            Err(fault) => refused(fault),
+            Err(refusal) => refused(Fault::Refused(refusal)),
         }
     }
 
@@ -311,6 +243,7 @@ impl Catalogue {
         requires { IsReady self.now }
         ensures tests { Tests self.now (step self.now who (Ask.Place name.now source.now front)) (λ snap. (Sid snap.sid, drawn self.now who (private_graph name.now (Some source.now) snap) (length snap.columns))) result }
         ensures may { IfOk result (λ snap. MayHold self.now who name.now snap (length snap.columns)) }
+        ensures new { IfOk result (λ snap. snap.columns ≡ range_with_len self.now.next_column (length snap.columns)) }
     {
         self.sound();
         let Some(session) = self.session(who) else {
@@ -357,6 +290,7 @@ impl Catalogue {
     ) -> Result<Snap, Fault>
         ensures tests { Tests self.now (step self.now who (Ask.Derive name.now base.now how.now)) (λ snap. (Sid snap.sid, drawn self.now who (private_graph name.now None snap) (new_columns how.now))) result }
         ensures may { IfOk result (λ snap. MayHold self.now who name.now snap (new_columns how.now)) }
+        ensures comes { IfOk result (λ snap. Comes (roots self.now) self.now.next_column snap snap.columns []) }
     {
         self.sound();
         let Some(session) = self.session(who) else {
@@ -374,18 +308,28 @@ impl Catalogue {
         Ok(self.derived(alloc, graph.snap.get(), how)?)
     }
 
-    /// The session of the caller holds one more graph, so many of whose columns are new.
-    fn draw(&mut self, who: u32, held: Held, new: u32) -> Result<Response, NoMemory>
+    /// The session of the caller holds one more graph. Its snapshot keeps some columns of others, and has new parts.
+    fn draw(
+        &mut self,
+        who: u32,
+        held: Held,
+        kept: &[u64],
+        new: List<Part>,
+    ) -> Result<Response, NoMemory>
         requires ready { IsReady self.old }
-        requires may { MayHold self.old who held.name held.snap new }
-        ensures ok { IfOk result (λ r. (r ≡ sid_response held.snap) × (self.new ≡ drawn self.old who held new)) }
+        requires may { MayHold self.old who held.name held.snap (length new) }
+        requires comes { Comes (roots self.old) self.old.next_column held.snap kept.now new }
+        ensures ok { IfOk result (λ r. (r ≡ sid_response held.snap) × (self.new ≡ drawn self.old who held (length new))) }
         ensures err { OnErr result (self.new ≡ self.old) }
     {
         let sid = held.snap.get().sid;
         let gift = held.snap.share()?;
-        hold(&mut self.sessions, who, held)?;
+        let count = new.len() as u32;
+        self.registry.reserve(count)?;
+        self.sessions.hold(who, held)?;
+        count_columns(&mut self.registry, kept, self.next_column, new);
         self.next_sid += 1;
-        self.next_column += new as u64;
+        self.next_column += count as u64;
         Ok(Response {
             kept: Reply::Sid(sid),
             reply: Reply::Sid(sid),
@@ -407,9 +351,9 @@ impl Catalogue {
     {
         match self.snap_to_place(alloc, who, name, source, front) {
             Ok(snap) => {
-                let new = snap.columns.len() as u32;
+                let new = shared_parts(alloc, &snap.shot)?;
                 let held = private(alloc, name, Some(source), snap)?;
-                self.draw(who, held, new)
+                self.draw(who, held, &[], new)
             }
             Err(fault) => refused(fault),
         }
@@ -429,8 +373,9 @@ impl Catalogue {
     {
         match self.snap_to_derive(alloc, who, name, base, how) {
             Ok(snap) => {
+                let kept = List::from_slice(alloc, snap.columns.as_slice())?;
                 let held = private(alloc, name, None, snap)?;
-                self.draw(who, held, 0)
+                self.draw(who, held, kept.as_slice(), List::new(alloc))
             }
             Err(fault) => refused(fault),
         }
@@ -442,10 +387,11 @@ impl Catalogue {
     fn test_release(&self, alloc: Global, who: u32, name: &Text) -> Result<(), Fault>
         ensures { Tests self.now (step self.now who (Ask.Release name.now)) (λ _. (Done, with_session self.now who (let_go name.now))) result }
     {
-        let Some(session) = self.session(who) else {
-            return Err(Fault::Refused(Refusal::NotOpen));
+        let held = match self.session(who) {
+            Some(session) => held_as(session.held.as_slice(), name),
+            None => return Err(Fault::Refused(Refusal::NotOpen)),
         };
-        if held_as(session.held.as_slice(), name).is_none() {
+        if held.is_none() {
             return Err(no_name(alloc, name));
         }
         Ok(())
@@ -459,10 +405,13 @@ impl Catalogue {
     ) -> Result<Response, NoMemory>
         ensures ok { IfOk result (IsServed self.old who (Ask.Release name.now) self.new) }
         ensures err { OnErr result (self.new ≡ self.old) }
+        ensures surely { OnErr result (RunsOut self.old who (Ask.Release name.now)) }
     {
         match self.test_release(alloc, who, name) {
             Ok(()) => {
-                let_go_of(&mut self.sessions, who, name);
+                if let Some(graph) = self.sessions.let_go(who, name) {
+                    release_snap(&mut self.registry, graph.snap.get());
+                }
                 Ok(done())
             }
             Err(fault) => refused(fault),
@@ -471,10 +420,20 @@ impl Catalogue {
 
     // ---- columns
 
+    /// The columns in use by their numbers, each with how many snapshots have it, and with what it holds: the numbers are exactly
+    /// those that can be reached from published graphs and sessions.
+    pub fn registry(&self) -> &[RegistryRow<Part>]
+        ensures numbers { ids_of result.now ≡ reach self.now }
+        ensures counts { (c : ℕ) → count_of result.now c ≡ count self.now c }
+        ensures parts { (s : SnapData) → Contains (roots self.now) s → HasParts result.now s }
+    {
+        self.registry.list()
+    }
+
     pub(crate) fn columns(&self, alloc: Global) -> Result<Response, NoMemory>
         ensures { IfOk result (λ r. (who : ℕ) → IsServed self.now who Ask.Columns self.now r) }
     {
-        let kept = reached(alloc, self.lines.as_slice(), self.sessions.as_slice())?;
+        let kept = listed(alloc, self.registry())?;
         let reply = List::from_slice(alloc, kept.as_slice())?;
         Ok(Response {
             kept: Reply::Columns(kept),

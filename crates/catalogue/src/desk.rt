@@ -1,7 +1,7 @@
 //! The catalogue serves one call at a time.
 ghost use Rattle.std.specs.Prelude.{◌≡◌, IfOk, OnErr};
 ghost use Rattle.catalogue.specs.Bound.{IsReady};
-ghost use Rattle.catalogue.specs.Response.{IsServed};
+ghost use Rattle.catalogue.specs.Response.{IsServed, RunsOut};
 
 use crate::response::Response;
 use crate::{Ask, Call, Catalogue, Gift, Reply};
@@ -20,6 +20,7 @@ fn respond(
     requires { IsReady catalogue.old }
     ensures ok { IfOk result (IsServed catalogue.old who ask.now catalogue.new) }
     ensures err { OnErr result (catalogue.new ≡ catalogue.old) }
+    ensures surely { OnErr result (RunsOut catalogue.old who ask.now) }
 {
     match ask {
         Ask::OpenSession => catalogue.open_session(alloc, who),
@@ -37,11 +38,12 @@ fn respond(
 }
 
 impl Desk for Catalogue {
-    ghost use Rattle.std.specs.Prelude.{◌≡◌, ◌++◌, ⊤};
+    ghost use Rattle.std.specs.Prelude.{◌≡◌, ◌++◌, ⊤, IfOk, OnErr};
     ghost use Rattle.catalogue.specs.State.{State};
     ghost use Rattle.catalogue.specs.Step.{step};
     ghost use Rattle.catalogue.specs.Gift.{gift_of};
     ghost use Rattle.catalogue.specs.Bound.{opening, HasSmall, IsReady};
+    ghost use Rattle.catalogue.specs.Response.{RunsOut};
     ghost use Rattle.catalogue.specs.Desk.{opening_stays, calls_get_ready};
 
     type Call = Call;
@@ -70,14 +72,23 @@ impl Desk for Catalogue {
 
     ghost short = { λ m who ask before after. ⊤ };
 
-    /// Answers a call by `step`. Where memory runs out the state is as before.
+    /// Answers a call by `step`. Where memory runs out the state is as before; it does not where graphs are given up.
     fn serve<L: Ledger>(
         &mut self,
         alloc: Global,
         who: u32,
         call: Call,
         _steps: &mut Steps<L>,
-    ) -> Result<Served<Ask, Reply, Gift>, NoMemory> {
+    ) -> Result<Served<Ask, Reply, Gift>, NoMemory>
+        requires ready { IsReady self.old }
+        ensures note { IfOk result (λ s. s.note ≡ call.ask) }
+        ensures kept { IfOk result (λ s. s.kept ≡ s.reply) }
+        ensures step { IfOk result (λ s. step self.old who call.ask ≡ (s.reply, self.new)) }
+        ensures gift { IfOk result (λ s. s.gift ≡ gift_of self.new who call.ask s.reply) }
+        ensures short { ⊤ }
+        ensures err { OnErr result (self.new ≡ self.old) }
+        ensures surely { OnErr result (RunsOut self.old who call.ask) }
+    {
         let Response { kept, reply, gift } = respond(self, alloc, who, &call.ask)?;
         Ok(Served {
             note: call.ask,

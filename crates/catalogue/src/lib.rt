@@ -10,6 +10,9 @@
 //!   reply and state, and hands out a [`Gift`]: the source that was asked about, or the snapshot that came.
 //! * A [`Snap`] is a snapshot with its id and the number of the column in each of its slots. A clone shares all columns, so it has
 //!   the same numbers; a graph that is placed has all new ones. [`Ask::Columns`] lists the numbers in use, `reach`.
+//! * [`Catalogue::registry`] lends the columns in use: under each number how many snapshots have it, and what it holds. A graph
+//!   that comes raises the counts of the columns that it keeps and lists its new ones; one that goes lowers its counts, and a
+//!   column that nobody has any more is dropped. Giving graphs up takes no memory.
 //!
 //! What the catalogue keeps between calls is `IsKept` of specs/Kept. The laws of its histories are the functions of laws.rt: what
 //! a session holds changes by its own calls alone, an id names one snapshot, what was placed is a prefix of its source's
@@ -21,12 +24,14 @@
 mod ask;
 mod call;
 mod catalogue;
+mod columns;
 mod desk;
 mod laws;
 mod parts;
-mod reach;
 mod reply;
 mod response;
+mod sessions;
+mod sources;
 
 pub use ask::{Ask, How, Mutation};
 pub use call::{Call, Gift, Made};

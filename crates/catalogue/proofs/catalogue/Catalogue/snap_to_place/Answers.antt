@@ -4,6 +4,7 @@ use Rattle.std.specs.Option.{option_copied}
 use Rattle.catalogue.specs.State.{from_source, session_of, held_of}
 use Rattle.catalogue.specs.Desk.{of_find}
 use Rattle.catalogue.proofs.Numbers.{may_place, not_held}
+use Rattle.catalogue.proofs.Coming.{placed_columns}
 use Rattle.catalogue.proofs.catalogue.Catalogue.snap_to_place.Goals as goal
 
 pub placed-requires-clause-from : goal.placed-requires-clause-from
@@ -18,3 +19,6 @@ returns-clause-may c =
     let free : is_some (held_of s c.args.name.now) ≡ false = not_held c.held_as.result c.args.name.now s c.as_slice.result.now c.as_slice.ensures c.held_as.ensures (sym c.is_some.ensures ∙ c.if-is_some.false) in
     let room : length s.held < 256 = omega (arith, c.len.ensures, c.if-len-ge-MOST_HELD.false) in
     may_place m c.args.who c.args.name.now s c.sound.ensures is free room c.in-Some-source.from.now c.args.front c.in_ok-placed.field-0 c.in_ok-placed.ensures.snap c.in_ok-placed.ensures.few
+
+pub returns-clause-new : goal.returns-clause-new
+returns-clause-new c = placed_columns c.args.self.now c.in-Some-source.from.now c.args.front c.in_ok-placed.field-0 c.in_ok-placed.ensures.snap
