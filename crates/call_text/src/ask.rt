@@ -1,5 +1,6 @@
 //! Calls.
-ghost use Rattle.std.specs.Prelude.{◌≡◌, ◌++◌, OnOk, map};
+ghost use Rattle.std.specs.Prelude.{◌≡◌, ◌++◌, OnOk, OnErr, map};
+ghost use Rattle.std.specs.Io.{StartsWith};
 ghost use Rattle.call_text.specs.Lines.{phrase};
 ghost use Rattle.call_text.specs.Words.{word_text};
 ghost use Rattle.call_text.specs.Asks.{ask_text, derive_text, way_name};
@@ -10,7 +11,8 @@ use column_types::{NoMemory, Text};
 
 /// Appends a word and further words.
 fn push_phrase(text: &mut Text, first: &str, words: &[Word]) -> Result<(), NoMemory>
-    ensures { OnOk result (text.new ≡ text.old ++ phrase first.now (map word_text words.now)) }
+    ensures ok { OnOk result (text.new ≡ text.old ++ phrase first.now (map word_text words.now)) }
+    ensures begins { OnErr result (StartsWith text.new text.old) }
 {
     text.push(first)?;
     push_spaced(text, words)
@@ -30,7 +32,8 @@ fn push_derive<'a>(
     base: &'a Text,
     how: &'a How,
 ) -> Result<(), NoMemory>
-    ensures { OnOk result (text.new ≡ text.old ++ derive_text name.now base.now how.now) }
+    ensures ok { OnOk result (text.new ≡ text.old ++ derive_text name.now base.now how.now) }
+    ensures begins { OnErr result (StartsWith text.new text.old) }
 {
     match how {
         How::Mutate(mutation) => push_phrase(
@@ -47,9 +50,11 @@ fn push_derive<'a>(
     }
 }
 
-/// Appends a call as it stands in a head line. After running out of memory a part of it may have been appended.
+/// Appends a call as it stands in a head line. After running out of memory the text begins with the old one, and a part of the call may
+/// stand behind it.
 pub fn push_ask(text: &mut Text, ask: &Ask) -> Result<(), NoMemory>
-    ensures { OnOk result (text.new ≡ text.old ++ ask_text ask.now) }
+    ensures ok { OnOk result (text.new ≡ text.old ++ ask_text ask.now) }
+    ensures begins { OnErr result (StartsWith text.new text.old) }
 {
     match ask {
         Ask::OpenSession => text.push("open"),

@@ -1,6 +1,7 @@
 //! Replies and refusals.
 ghost use Rattle.std.specs.Prelude.{◌≡◌, ◌++◌, OnOk, OnErr, map, codes};
 ghost use Rattle.std.specs.Fmt.{decimal};
+ghost use Rattle.std.specs.Io.{StartsWith};
 ghost use Rattle.call_text.specs.Lines.{reply_line};
 ghost use Rattle.call_text.specs.Words.{word_text};
 ghost use Rattle.call_text.specs.Replies.{reply_text, refused, refusal_text, starved_text};
@@ -11,7 +12,8 @@ use column_types::{NoMemory, Text};
 
 /// Appends a reply line: a word and further words.
 fn push_line(text: &mut Text, first: &str, words: &[Word]) -> Result<(), NoMemory>
-    ensures { OnOk result (text.new ≡ text.old ++ reply_line first.now (map word_text words.now)) }
+    ensures ok { OnOk result (text.new ≡ text.old ++ reply_line first.now (map word_text words.now)) }
+    ensures begins { OnErr result (StartsWith text.new text.old) }
 {
     text.push("  ")?;
     text.push(first)?;
@@ -20,16 +22,19 @@ fn push_line(text: &mut Text, first: &str, words: &[Word]) -> Result<(), NoMemor
 }
 
 fn push_columns(text: &mut Text, columns: &[u64]) -> Result<(), NoMemory>
-    ensures { OnOk result (text.new ≡ text.old ++ reply_line (codes "ok") (map decimal columns.now)) }
+    ensures ok { OnOk result (text.new ≡ text.old ++ reply_line (codes "ok") (map decimal columns.now)) }
+    ensures begins { OnErr result (StartsWith text.new text.old) }
 {
     text.push("  ok")?;
     push_numbers(text, columns)?;
     text.push("\n")
 }
 
-/// Appends the lines of a reply, each ended by a line feed. After running out of memory a part of them may have been appended.
+/// Appends the lines of a reply, each ended by a line feed. After running out of memory the text begins with the old one, and a part of
+/// the lines may stand behind it.
 pub fn push_reply(text: &mut Text, reply: &Reply) -> Result<(), NoMemory>
-    ensures { OnOk result (text.new ≡ text.old ++ reply_text reply.now) }
+    ensures ok { OnOk result (text.new ≡ text.old ++ reply_text reply.now) }
+    ensures begins { OnErr result (StartsWith text.new text.old) }
 {
     match reply {
         Reply::Done => push_line(text, "ok", &[]),
@@ -44,7 +49,8 @@ pub fn push_reply(text: &mut Text, reply: &Reply) -> Result<(), NoMemory>
 
 /// Appends the line of a refusal by its number, its name and its values.
 fn push_refused(text: &mut Text, number: u64, name: &str, values: &[Word]) -> Result<(), NoMemory>
-    ensures { OnOk result (text.new ≡ text.old ++ refused number name.now (map word_text values.now)) }
+    ensures ok { OnOk result (text.new ≡ text.old ++ refused number name.now (map word_text values.now)) }
+    ensures begins { OnErr result (StartsWith text.new text.old) }
 {
     text.push("  refused")?;
     push_spaced(text, &[Word::Number(number), Word::Name(name)])?;
@@ -52,10 +58,11 @@ fn push_refused(text: &mut Text, number: u64, name: &str, values: &[Word]) -> Re
     text.push("\n")
 }
 
-/// Appends the line of a refusal: its number, its name and its values. After running out of memory a part of it may have been
-/// appended.
+/// Appends the line of a refusal: its number, its name and its values. After running out of memory the text begins with the old one, and
+/// a part of the line may stand behind it.
 pub fn push_refusal(text: &mut Text, refusal: &Refusal) -> Result<(), NoMemory>
-    ensures { OnOk result (text.new ≡ text.old ++ refusal_text refusal.now) }
+    ensures ok { OnOk result (text.new ≡ text.old ++ refusal_text refusal.now) }
+    ensures begins { OnErr result (StartsWith text.new text.old) }
 {
     match refusal {
         Refusal::SessionsFull => push_refused(text, 18, "SessionsFull", &[]),

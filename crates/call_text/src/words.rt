@@ -1,6 +1,7 @@
 //! Words of a line, one space before each.
-ghost use Rattle.std.specs.Prelude.{◌≡◌, ◌++◌, OnOk, map};
+ghost use Rattle.std.specs.Prelude.{◌≡◌, ◌++◌, OnOk, OnErr, map};
 ghost use Rattle.std.specs.Fmt.{decimal};
+ghost use Rattle.std.specs.Io.{StartsWith};
 ghost use Rattle.call_text.specs.Lines.{spaced};
 ghost use Rattle.call_text.specs.Words.{word_text};
 
@@ -15,7 +16,8 @@ pub enum Word<'a> {
 }
 
 fn push_word(text: &mut Text, word: &Word) -> Result<(), NoMemory>
-    ensures { OnOk result (text.new ≡ text.old ++ word_text word.now) }
+    ensures ok { OnOk result (text.new ≡ text.old ++ word_text word.now) }
+    ensures err { OnErr result (text.new ≡ text.old) }
 {
     match word {
         Word::Name(name) => text.push(name),
@@ -23,9 +25,10 @@ fn push_word(text: &mut Text, word: &Word) -> Result<(), NoMemory>
     }
 }
 
-/// Appends words, a space before each.
+/// Appends words, a space before each. After running out of memory the text begins with the old one.
 pub fn push_spaced(text: &mut Text, words: &[Word]) -> Result<(), NoMemory>
-    ensures { OnOk result (text.new ≡ text.old ++ spaced (map word_text words.now)) }
+    ensures ok { OnOk result (text.new ≡ text.old ++ spaced (map word_text words.now)) }
+    ensures begins { OnErr result (StartsWith text.new text.old) }
 {
     for word in words {
         text.push(" ")?;
@@ -34,9 +37,10 @@ pub fn push_spaced(text: &mut Text, words: &[Word]) -> Result<(), NoMemory>
     Ok(())
 }
 
-/// Appends numbers, a space before each.
+/// Appends numbers, a space before each. After running out of memory the text begins with the old one.
 pub fn push_numbers(text: &mut Text, numbers: &[u64]) -> Result<(), NoMemory>
-    ensures { OnOk result (text.new ≡ text.old ++ spaced (map decimal numbers.now)) }
+    ensures ok { OnOk result (text.new ≡ text.old ++ spaced (map decimal numbers.now)) }
+    ensures begins { OnErr result (StartsWith text.new text.old) }
 {
     for number in numbers {
         push_spaced(text, &[Word::Number(*number)])?;
