@@ -1,52 +1,64 @@
 -- What each line keeps, so that a script that is read is one of the grammar.
-use Rattle.std.proofs.Common.{◌≡◌, ◌∙◌, sym, refl, ap, ℕ, ◌+◌, ◌<◌, ◌≤◌, List, [], ◌∷◌, ◌++◌, length, get_or, false, None, Result, Ok, Err, arith}
-use Rattle.std.specs.Prelude.{◌≢◌, not, nat_le, IfOk, All, AllPairs, codes}
+use Rattle.std.proofs.Common.{◌≡◌, ◌∙◌, sym, refl, subst, ℕ, ◌+◌, ◌<◌, ◌≤◌, List, [], ◌∷◌, ◌++◌, length, get_or, false, None, Ok, Err, arith}
+use Rattle.std.specs.Prelude.{◌≢◌, ◌-◌, ◌^◌, not, nat_le, nat_lt, All, AllPairs, codes, sum_by, ⊤}
 use Rattle.std.specs.Str.{is_utf8}
-use Rattle.std.proofs.lemmas.Bool.{leb-false, false≢true}
+use Rattle.std.proofs.lemmas.Bool.{leb-false, ltb-false, false≢true}
 use Rattle.std.proofs.lemmas.List.{length-append}
 use Rattle.std.proofs.lemmas.List.Elements.{All-nil, All-push}
 use Rattle.std.proofs.lemmas.List.Folds.{list_any_at}
 use Rattle.std.proofs.lemmas.List.Quantifiers.{all_pairs_push}
 use Rattle.script_read.specs.declared.fault.LineWhy.TheVariants as why
-use Rattle.script_read.specs.declared.fault.ScriptFault.{ScriptFault}
-use Rattle.script_read.specs.declared.reading.Place.{Place}
-use Rattle.script_read.specs.declared.reading.Place.TheVariants as place
+use Rattle.script_read.specs.declared.reading.Section.{Section}
+use Rattle.script_read.specs.declared.reading.Section.TheVariants as section
 use Rattle.script_read.specs.declared.reading.Reading.{Reading}
 use Rattle.script_read.specs.declared.script.Block.{Block}
-use Rattle.script_read.specs.declared.script.Command.{Command}
 use Rattle.script_read.specs.declared.script.Script.{Script}
 use Rattle.script_read.specs.declared.script.SourceForm.TheVariants.{Inline, Files}
 use Rattle.script_read.specs.declared.script.SourceText.{SourceText}
 use Rattle.script_read.specs.Commands.{command_of}
 use Rattle.script_read.specs.Later.{comes_later}
 use Rattle.script_read.specs.Lines.{lines_of, cleaned, is_passed, line_step}
-use Rattle.script_read.specs.Meaning.{IsName, HasFiles, IsCommand, HasPhases, IsScript}
-use Rattle.script_read.specs.Places.{has_source, new_source, inline_line, files_line, source_line, vertex_line, edge_line, end_line, phase_line, actor_line, command_line, built_line, line_in}
-use Rattle.script_read.specs.Script.{opening, phases_at, ended, lines_read, script_of, ReadsScript}
+use Rattle.script_read.specs.Meaning.{IsName, HasFiles, IsScript}
+use Rattle.script_read.specs.Phases.{block_count}
+use Rattle.script_read.specs.Sections.{has_source, new_source, inline_line, files_line, source_line, vertex_line, edge_line, end_line, first_phase_line, phase_line, phase_ended, blocks_at, number_of, has_block, new_block, block_opened, actor_line, command_added, command_line, built_line, line_in}
+use Rattle.script_read.specs.Script.{opening, phases_so_far, phases_at, ended, lines_read, script_of}
 use Rattle.script_read.specs.Words.{same, word_at, name, file_name, key, alone, one_name}
+use Rattle.script_read.proofs.Blocks.{ArePhases, phase_more, actor_more, command_more}
 use Rattle.script_read.proofs.Forms.{command_is}
 use Rattle.script_read.proofs.Shapes.{Begins, one_name_is}
 use Rattle.script_read.proofs.Inversions.{err_ok, carried, passed, either, first, named, file_named, is_same, at_line_ok}
 
 -- ---- what is kept
 
--- one more source of this name may stand behind those that are read, and no actor stands yet
-pub record IsOpen (actors : List (List ℕ)) (sources : List SourceText) (name : List ℕ) : Type 0 where
-  pub nobody : actors ≡ []
-  pub room : length sources + 1 ≤ 64
-  pub fresh : has_source sources name ≡ false
-  pub is_name : IsName name
+-- no phase has begun
+pub record NoPhase (s : Reading) : Type 0 where
+  pub phases : s.phases ≡ []
+  pub blocks : s.blocks ≡ []
+
+-- one more source of this name may stand behind those that are read, and no phase has begun
+pub record IsOpen (s : Reading) : Type 0 where
+  pub before : NoPhase s
+  pub room : length s.sources + 1 ≤ 64
+  pub fresh : has_source s.sources s.source.name ≡ false
+  pub is_name : IsName s.source.name
 
 -- what stands where the next line stands
-abbrev pub AtPlace : Place → Reading → Type 0
-AtPlace place.Start s = s.actors ≡ []
-AtPlace place.Vertices s = IsOpen s.actors s.sources s.source.name
-AtPlace place.Edges s = IsOpen s.actors s.sources s.source.name
-AtPlace place.Phase s = s.actors ≡ []
-AtPlace place.Actor s = (actor : List ℕ) × (s.actors ≡ actor ∷ []) × IsName actor
+abbrev pub AtSection : Section → Reading → Type 0
+AtSection section.Start s = NoPhase s
+AtSection section.Vertices s = IsOpen s
+AtSection section.Edges s = IsOpen s
+AtSection section.Phase s = ⊤
+AtSection section.Actor s = ⊤
 
-placed : (p q : Place) (s : Reading) → p ≡ q → AtPlace q s → AtPlace p s
+placed : (p q : Section) (s : Reading) → p ≡ q → AtSection q s → AtSection p s
 placed p q s e h = rw e h
+
+-- the phases so far are those of a script
+abbrev pub Phased : Section → Reading → Type 0
+Phased p s = ArePhases s.actors (phases_so_far p s) s.command_count
+
+phased : (p q : Section) (s : Reading) → p ≡ q → Phased q s → Phased p s
+phased p q s e h = rw e h
 
 abbrev Named : SourceText → Type 0
 Named source = IsName source.name
@@ -62,9 +74,8 @@ pub record IsReading (s : Reading) : Type 0 where
   pub names : All Named s.sources
   pub files : All Filed s.sources
   pub distinct : AllPairs Differ s.sources
-  pub stands : AtPlace s.place s
-  pub short : length s.commands ≤ 65536
-  pub commands : All IsCommand s.commands
+  pub stands : AtSection s.section s
+  pub phased : Phased s.section s
 
 room_of : (sources : List SourceText) → nat_le 64 (length sources) ≡ false → length sources + 1 ≤ 64
 room_of sources h = omega (arith, leb-false 64 (length sources) h)
@@ -89,20 +100,20 @@ is_new sources name u h =
     let d = passed (nat_le 64 (length sources)) why.Many _ u c.1 in
     record { room = room_of sources d.0; fresh = c.0 }
 
-keeps_inline : (s t : Reading) (line : List ℕ) → IsReading s → AtPlace place.Start s → inline_line s line ≡ Ok t → IsReading t
+keeps_inline : (s t : Reading) (line : List ℕ) → IsReading s → AtSection section.Start s → Phased section.Start s → inline_line s line ≡ Ok t → IsReading t
 unfolding inline_line
-keeps_inline s t line good here h =
+keeps_inline s t line good here run h =
     let a = passed _ why.Form _ t h in
     let b = first (name (word_at line 1)) _ t a.1 in
     let n = named _ _ b.1 in
     let c = first (new_source s.sources b.0) _ t b.2 in
     let d = is_new s.sources b.0 c.0 c.1 in
-    carried IsReading (record s { place = place.Vertices; source = record { name = b.0; vertices = []; edges = [] } }) t c.2
-    (record { few = good.few; names = good.names; files = good.files; distinct = good.distinct; stands = record { nobody = here; room = d.room; fresh = d.fresh; is_name = n.1 }; short = good.short; commands = good.commands })
+    carried IsReading (record s { section = section.Vertices; source = record { name = b.0; vertices = []; edges = [] } }) t c.2
+    (record { few = good.few; names = good.names; files = good.files; distinct = good.distinct; stands = record { before = record { phases = here.phases; blocks = here.blocks }; room = d.room; fresh = d.fresh; is_name = n.1 }; phased = run })
 
-keeps_files : (s t : Reading) (line : List ℕ) → IsReading s → s.place ≡ place.Start → AtPlace place.Start s → files_line s line ≡ Ok t → IsReading t
+keeps_files : (s t : Reading) (line : List ℕ) → IsReading s → s.section ≡ section.Start → AtSection section.Start s → Phased section.Start s → files_line s line ≡ Ok t → IsReading t
 unfolding files_line
-keeps_files s t line good at here h =
+keeps_files s t line good at here run h =
     let a = passed _ why.Form _ t h in
     let b = first (name (word_at line 1)) _ t a.1 in
     let n = named _ _ b.1 in
@@ -118,42 +129,41 @@ keeps_files s t line good at here h =
       names = All-push Named s.sources source good.names n.1;
       files = All-push Filed s.sources source good.files (f.1, refl);
       distinct = all_pairs_push Differ s.sources source good.distinct (differs s.sources source e.fresh);
-      stands = placed s.place place.Start new at here;
-      short = good.short;
-      commands = good.commands;
+      stands = placed s.section section.Start new at (record { phases = here.phases; blocks = here.blocks });
+      phased = phased s.section section.Start new at run;
     })
 
-keeps_source : (s t : Reading) (line : List ℕ) → IsReading s → s.place ≡ place.Start → AtPlace place.Start s → source_line s line ≡ Ok t → IsReading t
+keeps_source : (s t : Reading) (line : List ℕ) → IsReading s → s.section ≡ section.Start → AtSection section.Start s → Phased section.Start s → source_line s line ≡ Ok t → IsReading t
 unfolding source_line
-keeps_source s t line good at here h =
-    either (same (word_at line 2) (codes "config")) _ _ t _ (λ w e. keeps_files s t line good at here e) (keeps_inline s t line good here) h
+keeps_source s t line good at here run h =
+    either (same (word_at line 2) (codes "config")) _ _ t _ (λ w e. keeps_files s t line good at here run e) (keeps_inline s t line good here run) h
 
-keeps_vertex : (s t : Reading) (line : List ℕ) → IsReading s → s.place ≡ place.Vertices → AtPlace place.Vertices s → vertex_line s line ≡ Ok t → IsReading t
+keeps_vertex : (s t : Reading) (line : List ℕ) → IsReading s → s.section ≡ section.Vertices → AtSection section.Vertices s → Phased section.Vertices s → vertex_line s line ≡ Ok t → IsReading t
 unfolding vertex_line
-keeps_vertex s t line good at here h =
+keeps_vertex s t line good at here run h =
     let a = passed _ why.Form _ t h in
     let b = first (key (word_at line 1)) _ t a.1 in
     let new : Reading = record s { source = record s.source { vertices = s.source.vertices ++ b.0 ∷ [] } } in
     carried IsReading new t b.2
-    (record { few = good.few; names = good.names; files = good.files; distinct = good.distinct; stands = placed s.place place.Vertices new at here; short = good.short; commands = good.commands })
+    (record { few = good.few; names = good.names; files = good.files; distinct = good.distinct; stands = placed s.section section.Vertices new at (record { before = record { phases = here.before.phases; blocks = here.before.blocks }; room = here.room; fresh = here.fresh; is_name = here.is_name }); phased = phased s.section section.Vertices new at run })
 
-keeps_edge : (s t : Reading) (line : List ℕ) → IsReading s → AtPlace place.Edges s → edge_line s line ≡ Ok t → IsReading t
+keeps_edge : (s t : Reading) (line : List ℕ) → IsReading s → AtSection section.Edges s → Phased section.Edges s → edge_line s line ≡ Ok t → IsReading t
 unfolding edge_line
-keeps_edge s t line good here h =
+keeps_edge s t line good here run h =
     let a = passed _ why.Form _ t h in
     let b = first (key (word_at line 1)) _ t a.1 in
     let c = first (key (word_at line 2)) _ t b.2 in
     let d = first (key (word_at line 3)) _ t c.2 in
-    carried IsReading (record s { place = place.Edges; source = record s.source { edges = s.source.edges ++ (b.0, c.0, d.0) ∷ [] } }) t d.2
-    (record { few = good.few; names = good.names; files = good.files; distinct = good.distinct; stands = here; short = good.short; commands = good.commands })
+    carried IsReading (record s { section = section.Edges; source = record s.source { edges = s.source.edges ++ (b.0, c.0, d.0) ∷ [] } }) t d.2
+    (record { few = good.few; names = good.names; files = good.files; distinct = good.distinct; stands = record { before = record { phases = here.before.phases; blocks = here.before.blocks }; room = here.room; fresh = here.fresh; is_name = here.is_name }; phased = run })
 
-keeps_end : (s t : Reading) (line : List ℕ) → IsReading s → AtPlace place.Edges s → end_line s line ≡ Ok t → IsReading t
+keeps_end : (s t : Reading) (line : List ℕ) → IsReading s → AtSection section.Edges s → Phased section.Edges s → end_line s line ≡ Ok t → IsReading t
 unfolding end_line
-keeps_end s t line good here h =
+keeps_end s t line good here run h =
     let a = first (alone line) _ t h in
     carried IsReading
     (record s {
-      place = place.Start;
+      section = section.Start;
       sources = s.sources ++ record { name = s.source.name; form = Inline s.source.vertices s.source.edges } ∷ [];
       source = record { name = []; vertices = []; edges = [] };
     }) t a.2
@@ -162,104 +172,179 @@ keeps_end s t line good here h =
       names = All-push Named s.sources _ good.names here.is_name;
       files = All-push Filed s.sources _ good.files tt;
       distinct = all_pairs_push Differ s.sources _ good.distinct (differs s.sources (record { name = s.source.name; form = Inline s.source.vertices s.source.edges }) here.fresh);
-      stands = here.nobody;
-      short = good.short;
-      commands = good.commands;
+      stands = record { phases = here.before.phases; blocks = here.before.blocks };
+      phased = run;
     })
 
-keeps_phase : (s t : Reading) (line : List ℕ) → IsReading s → AtPlace place.Start s → phase_line s line ≡ Ok t → IsReading t
-unfolding phase_line
-keeps_phase s t line good here h =
+first_phased : (names : List (List ℕ)) (phases : List (List Block)) (blocks : List Block) (n : ℕ) → blocks ≡ [] → ArePhases names phases n → ArePhases names (phases ++ blocks ∷ []) n
+first_phased names phases blocks n e h = rw e (phase_more names phases n h)
+
+keeps_first_phase : (s t : Reading) (line : List ℕ) → IsReading s → AtSection section.Start s → Phased section.Start s → first_phase_line s line ≡ Ok t → IsReading t
+unfolding first_phase_line
+keeps_first_phase s t line good here run h =
     let a = first (alone line) _ t h in
-    carried IsReading (record s { place = place.Phase }) t a.2
-    (record { few = good.few; names = good.names; files = good.files; distinct = good.distinct; stands = here; short = good.short; commands = good.commands })
+    carried IsReading (record s { section = section.Phase }) t a.2
+    (record { few = good.few; names = good.names; files = good.files; distinct = good.distinct; stands = tt; phased = first_phased s.actors s.phases s.blocks s.command_count here.blocks run })
 
-keeps_actor : (s t : Reading) (line : List ℕ) → IsReading s → AtPlace place.Phase s → Begins line (codes "actor") → actor_line s line ≡ Ok t → IsReading t
+-- a phase is open, and its blocks are the last of those so far
+abbrev pub Within : Reading → Type 0
+Within s = ArePhases s.actors (s.phases ++ blocks_at s.section s ∷ []) s.command_count
+
+keeps_phase : (s t : Reading) (line : List ℕ) → IsReading s → Within s → phase_line s line ≡ Ok t → IsReading t
+unfolding phase_line
+keeps_phase s t line good run h =
+    let a = first (alone line) _ t h in
+    carried IsReading (record (phase_ended s) { section = section.Phase }) t a.2
+    (record { few = good.few; names = good.names; files = good.files; distinct = good.distinct; stands = tt; phased = phase_more s.actors (s.phases ++ blocks_at s.section s ∷ []) s.command_count run })
+
+-- the number of a block that may begin
+pub record MayBegin (blocks : List Block) (number x : ℕ) : Type 0 where
+  pub is : number ≡ x
+  pub free : has_block blocks x ≡ false
+  pub room : x ≤ 128
+
+pub may_begin : (blocks : List Block) (number x : ℕ) → new_block blocks number ≡ Ok x → MayBegin blocks number x
+unfolding new_block
+may_begin blocks number x h =
+    let a = passed (has_block blocks number) why.Twice _ x h in
+    let b = passed (nat_lt 128 number) why.Many _ x a.1 in
+    let room = ltb-false 128 number b.0 in
+    carried (MayBegin blocks number) number x b.1 (record { is = refl; free = a.0; room = room })
+
+keeps_actor : (s t : Reading) (line : List ℕ) → IsReading s → Within s → Begins line (codes "actor") → actor_line s line ≡ Ok t → IsReading t
 unfolding actor_line
-keeps_actor s t line good here w h =
+keeps_actor s t line good run w h =
     let a = first (one_name line) _ t h in
-    carried IsReading (record s { place = place.Actor; actors = s.actors ++ a.0 ∷ [] }) t a.2
-    (record { few = good.few; names = good.names; files = good.files; distinct = good.distinct; stands = (a.0, ap (λ (xs : List (List ℕ)). xs ++ a.0 ∷ []) here, (one_name_is line _ a.0 w a.1).is_name); short = good.short; commands = good.commands })
+    let b = first (new_block (blocks_at s.section s) (number_of s.actors a.0)) _ t a.2 in
+    let m = may_begin (blocks_at s.section s) (number_of s.actors a.0) b.0 b.1 in
+    carried IsReading (block_opened s a.0 b.0) t b.2
+    (record {
+      few = good.few;
+      names = good.names;
+      files = good.files;
+      distinct = good.distinct;
+      stands = tt;
+      phased = actor_more s.actors s.phases (blocks_at s.section s) s.command_count a.0 b.0 m.is run (one_name_is line _ a.0 w a.1).is_name m.free m.room;
+    })
 
-one_more : (commands : List Command) (c : Command) → nat_le 65536 (length commands) ≡ false → length (commands ++ c ∷ []) ≤ 65536
-one_more commands c h = let e = leb-false 65536 (length commands) h in rw (length-append commands (c ∷ [])) (omega (arith, e))
-
-keeps_command : (s t : Reading) (line : List ℕ) → IsReading s → s.place ≡ place.Actor → AtPlace place.Actor s → command_line s line ≡ Ok t → IsReading t
+keeps_command : (s t : Reading) (line : List ℕ) → IsReading s → s.section ≡ section.Actor → Phased section.Actor s → command_line s line ≡ Ok t → IsReading t
 unfolding command_line
-keeps_command s t line good at here h =
+keeps_command s t line good at run h =
     let a = first (command_of line) _ t h in
-    let b = passed (nat_le 65536 (length s.commands)) why.Many _ t a.2 in
-    let new : Reading = record s { commands = s.commands ++ a.0 ∷ [] } in
+    let b = passed (nat_le 65536 s.command_count) why.Many _ t a.2 in
+    let room = leb-false 65536 s.command_count b.0 in
+    let new = command_added s a.0 in
     carried IsReading new t b.1
     (record {
       few = good.few;
       names = good.names;
       files = good.files;
       distinct = good.distinct;
-      stands = placed s.place place.Actor new at here;
-      short = one_more s.commands a.0 b.0;
-      commands = All-push IsCommand s.commands a.0 good.commands (command_is line a.0 a.1);
+      stands = placed s.section section.Actor new at tt;
+      phased = phased s.section section.Actor new at (command_more s.actors s.phases s.blocks s.block s.command_count a.0 run (command_is line a.0 a.1) room);
     })
 
 no_word : (s t : Reading) → Err why.Word ≡ Ok t → IsReading t
 no_word s t e = absurd (err_ok why.Word t e)
 
-keeps_built : (p : Place) (s t : Reading) (line : List ℕ) → IsReading s → s.place ≡ p → AtPlace p s → built_line p s line ≡ Ok t → IsReading t
-unfolding built_line
-keeps_built place.Start s t line good at here h =
-    either (same (word_at line 0) (codes "source")) _ _ t _ (λ w e. keeps_source s t line good at here e)
-    (either (same (word_at line 0) (codes "phase")) _ _ t _ (λ w e. keeps_phase s t line good here e) (no_word s t)) h
-keeps_built place.Vertices s t line good at here h =
-    either (same (word_at line 0) (codes "v")) _ _ t _ (λ w e. keeps_vertex s t line good at here e)
-    (either (same (word_at line 0) (codes "e")) _ _ t _ (λ w e. keeps_edge s t line good here e)
-    (either (same (word_at line 0) (codes "end")) _ _ t _ (λ w e. keeps_end s t line good here e) (no_word s t))) h
-keeps_built place.Edges s t line good at here h =
-    either (same (word_at line 0) (codes "e")) _ _ t _ (λ w e. keeps_edge s t line good here e)
-    (either (same (word_at line 0) (codes "end")) _ _ t _ (λ w e. keeps_end s t line good here e) (no_word s t)) h
-keeps_built place.Phase s t line good at here h =
-    either (same (word_at line 0) (codes "actor")) _ _ t _ (λ w e. keeps_actor s t line good here w e) (no_word s t) h
-keeps_built place.Actor s t line good at here h = keeps_command s t line good at here h
+pub within : (p : Section) (s : Reading) → s.section ≡ p → ArePhases s.actors (s.phases ++ blocks_at p s ∷ []) s.command_count → Within s
+within p s at h = subst (λ (q : Section). ArePhases s.actors (s.phases ++ blocks_at q s ∷ []) s.command_count) (sym at) h
 
-keeps_in : (p : Place) (s t : Reading) (line : List ℕ) → IsReading s → s.place ≡ p → AtPlace p s → line_in p s line ≡ Ok t → IsReading t
+keeps_built : (p : Section) (s t : Reading) (line : List ℕ) → IsReading s → s.section ≡ p → AtSection p s → Phased p s → built_line p s line ≡ Ok t → IsReading t
+unfolding built_line
+keeps_built section.Start s t line good at here run h =
+    either (same (word_at line 0) (codes "source")) _ _ t _ (λ w e. keeps_source s t line good at here run e)
+    (either (same (word_at line 0) (codes "phase")) _ _ t _ (λ w e. keeps_first_phase s t line good here run e) (no_word s t)) h
+keeps_built section.Vertices s t line good at here run h =
+    either (same (word_at line 0) (codes "v")) _ _ t _ (λ w e. keeps_vertex s t line good at here run e)
+    (either (same (word_at line 0) (codes "e")) _ _ t _ (λ w e. keeps_edge s t line good here run e)
+    (either (same (word_at line 0) (codes "end")) _ _ t _ (λ w e. keeps_end s t line good here run e) (no_word s t))) h
+keeps_built section.Edges s t line good at here run h =
+    either (same (word_at line 0) (codes "e")) _ _ t _ (λ w e. keeps_edge s t line good here run e)
+    (either (same (word_at line 0) (codes "end")) _ _ t _ (λ w e. keeps_end s t line good here run e) (no_word s t)) h
+keeps_built section.Phase s t line good at here run h =
+    either (same (word_at line 0) (codes "phase")) _ _ t _ (λ w e. keeps_phase s t line good (within section.Phase s at run) e)
+    (either (same (word_at line 0) (codes "actor")) _ _ t _ (λ w e. keeps_actor s t line good (within section.Phase s at run) w e) (no_word s t)) h
+keeps_built section.Actor s t line good at here run h =
+    either (same (word_at line 0) (codes "phase")) _ _ t _ (λ w e. keeps_phase s t line good (within section.Actor s at run) e)
+    (either (same (word_at line 0) (codes "actor")) _ _ t _ (λ w e. keeps_actor s t line good (within section.Actor s at run) w e)
+    (λ e. keeps_command s t line good at run e)) h
+
+keeps_in : (p : Section) (s t : Reading) (line : List ℕ) → IsReading s → s.section ≡ p → AtSection p s → Phased p s → line_in p s line ≡ Ok t → IsReading t
 unfolding line_in
-keeps_in p s t line good at here h = keeps_built p s t line good at here (passed (comes_later p (word_at line 0)) why.Later _ t h).1
+keeps_in p s t line good at here run h = keeps_built p s t line good at here run (passed (comes_later p (word_at line 0)) why.Later _ t h).1
 
 -- each line keeps it
 pub keeps : (s t : Reading) (line : List ℕ) → IsReading s → line_step s line ≡ Ok t → IsReading t
 unfolding line_step
 keeps s t line good h =
     either (is_passed line) _ _ t _ (λ p e. carried IsReading s t e good)
-    (λ e. keeps_in s.place s t line good refl good.stands (passed (not (is_utf8 line)) why.Utf8 _ t e).1) h
+    (λ e. keeps_in s.section s t line good refl good.stands good.phased (passed (not (is_utf8 line)) why.Utf8 _ t e).1) h
 
 -- ---- the end
 
-phases_are : (p : Place) (s : Reading) (phases : List (List Block)) → IsReading s → AtPlace p s → phases_at p s.commands ≡ Ok phases → HasPhases s.actors phases
-phases_are place.Start s phases good here h = rw here (carried (HasPhases []) [] phases h tt)
-phases_are place.Vertices s phases good here h = absurd (err_ok why.End phases h)
-phases_are place.Edges s phases good here h = absurd (err_ok why.End phases h)
-phases_are place.Phase s phases good here h = rw here (carried (HasPhases []) ([] ∷ []) phases h tt)
-phases_are place.Actor s phases good here h =
-    rw here.1 (carried (HasPhases (here.0 ∷ [])) ((record { actor = 1; commands = s.commands } ∷ []) ∷ []) phases h
-    (here.2, record { actor = refl; few = good.short; commands = good.commands }))
+phases_are : (p : Section) (s : Reading) (phases : List (List Block)) → Phased p s → phases_at p s ≡ Ok phases → ArePhases s.actors phases s.command_count
+phases_are section.Start s phases run h = carried (λ x. ArePhases s.actors x s.command_count) (phases_so_far section.Start s) phases h run
+phases_are section.Vertices s phases run h = absurd (err_ok why.End phases h)
+phases_are section.Edges s phases run h = absurd (err_ok why.End phases h)
+phases_are section.Phase s phases run h = carried (λ x. ArePhases s.actors x s.command_count) (phases_so_far section.Phase s) phases h run
+phases_are section.Actor s phases run h = carried (λ x. ArePhases s.actors x s.command_count) (phases_so_far section.Actor s) phases h run
 
-ends_well : (n : ℕ) (s : Reading) (script : Script) → IsReading s → ended n s ≡ Ok script → IsScript script
+-- the blocks of a script are not too many
+abbrev pub FewBlocks : Script → Type 0
+FewBlocks script = sum_by block_count script.phases < 2 ^ 32 - 1
+
+script_is : (s : Reading) (phases : List (List Block)) → IsReading s → ArePhases s.actors phases s.command_count
+    → FewBlocks (record { sources = s.sources; actors = s.actors; phases = phases }) → IsScript (record { sources = s.sources; actors = s.actors; phases = phases })
+script_is s phases good h blocks = record {
+  few = good.few;
+  names = good.names;
+  files = good.files;
+  distinct = good.distinct;
+  few_actors = h.few;
+  actor_names = h.names;
+  distinct_actors = h.distinct;
+  numbered = h.numbered;
+  runs = record { phases = h.phases; commands = omega (arith, h.counted, h.many); blocks = blocks };
+  commands = h.commands;
+}
+
+ends_well : (n : ℕ) (s : Reading) (script : Script) → IsReading s → ended n s ≡ Ok script → FewBlocks script → IsScript script
 unfolding ended
 ends_well n s script good h =
-    let a = at_line_ok n (phases_at s.place s.commands) _ script h in
-    carried IsScript (record { sources = s.sources; actors = s.actors; phases = a.0 }) script a.2
-    (record { few = good.few; names = good.names; files = good.files; distinct = good.distinct; phases = phases_are s.place s a.0 good good.stands a.1 })
+    let a = at_line_ok n (phases_at s.section s) _ script h in
+    carried (λ (x : Script). FewBlocks x → IsScript x) (record { sources = s.sources; actors = s.actors; phases = a.0 }) script a.2
+    (script_is s a.0 good (phases_are s.section s a.0 good.phased a.1))
 
-reads_well : (n : ℕ) (s : Reading) (lines : List (List ℕ)) (script : Script) → IsReading s → lines_read n s lines ≡ Ok script → IsScript script
+reads_well : (n : ℕ) (s : Reading) (lines : List (List ℕ)) (script : Script) → IsReading s → lines_read n s lines ≡ Ok script → FewBlocks script → IsScript script
 unfolding lines_read
 reads_well n s [] script good h = ends_well n s script good h
 reads_well n s (line ∷ lines) script good h =
     let a = at_line_ok n (line_step s (cleaned line)) _ script h in
     reads_well (n + 1) a.0 lines script (keeps s a.0 (cleaned line) good a.1) a.2
 
-pub opens_well : IsReading opening
-opens_well = record { few = omega arith; names = All-nil Named; files = All-nil Filed; distinct = λ i j d lt in_range. absurd (omega (arith, in_range)); stands = refl; short = omega arith; commands = All-nil IsCommand }
+none_phased : ArePhases [] [] 0
+none_phased = record {
+  few = omega arith;
+  names = All-nil IsName;
+  distinct = λ i j d lt in_range. absurd (omega (arith, in_range));
+  phases = tt;
+  numbered = refl;
+  commands = tt;
+  counted = refl;
+  many = omega arith;
+}
 
--- a script that is read is one of the grammar
-pub is_script : (answer : Result Script ScriptFault) (bytes : List ℕ) → ReadsScript answer (script_of bytes) → IfOk answer IsScript
-is_script (Ok script) bytes h = reads_well 1 opening (lines_of bytes) script opens_well h
-is_script (Err e) bytes h = tt
+pub opens_well : IsReading opening
+opens_well = record {
+  few = omega arith;
+  names = All-nil Named;
+  files = All-nil Filed;
+  distinct = λ i j d lt in_range. absurd (omega (arith, in_range));
+  stands = record { phases = refl; blocks = refl };
+  phased = none_phased;
+}
+
+-- a script that is read is one of the grammar, where it has not too many blocks
+pub is_script : (script : Script) (bytes : List ℕ) → script_of bytes ≡ Ok script → FewBlocks script → IsScript script
+is_script script bytes h = reads_well 1 opening (lines_of bytes) script opens_well h

@@ -2,8 +2,10 @@ pub mod Feeds
 pub mod Steps
 pub mod Inversions
 pub mod Shapes
+pub mod Ended
 pub mod First
 pub mod Forms
+pub mod Blocks
 pub mod Kept
 pub mod Numbers
 pub mod Spelled

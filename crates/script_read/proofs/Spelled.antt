@@ -1,32 +1,31 @@
 -- The lines of a script that is read are those that its parts spell.
-use Rattle.std.proofs.Common.{◌≡◌, ◌∙◌, sym, refl, ap, ℕ, ℤ, ◌+◌, List, [], ◌∷◌, ◌++◌, map, length, Bool, true, false, if◌then◌else◌, None, Result, Ok, Err}
-use Rattle.std.specs.Prelude.{◌≢◌, ◌==◌, not, nat_le, IfOk, codes, ⊤}
+use Rattle.std.proofs.Common.{◌≡◌, ◌∙◌, sym, refl, ap, subst, ℕ, ℤ, ◌+◌, List, [], ◌∷◌, ◌++◌, map, Bool, true, false, if◌then◌else◌, None, Ok, Err}
+use Rattle.std.specs.Prelude.{◌≢◌, ◌==◌, not, nat_le, codes}
 use Rattle.std.specs.List.{flat_map}
 use Rattle.std.specs.Str.{is_utf8}
 use Rattle.std.proofs.lemmas.List.{map-append, append_assoc, append-nil}
 use Rattle.std.proofs.lemmas.Grind.{flat_map-append}
 use Rattle.script_read.specs.declared.fault.LineWhy.TheVariants as why
-use Rattle.script_read.specs.declared.fault.ScriptFault.{ScriptFault}
-use Rattle.script_read.specs.declared.reading.Place.{Place}
-use Rattle.script_read.specs.declared.reading.Place.TheVariants as place
+use Rattle.script_read.specs.declared.reading.Section.{Section}
+use Rattle.script_read.specs.declared.reading.Section.TheVariants as section
 use Rattle.script_read.specs.declared.reading.Reading.{Reading}
 use Rattle.script_read.specs.declared.script.Block.{Block}
-use Rattle.script_read.specs.declared.script.Command.{Command}
 use Rattle.script_read.specs.declared.script.Script.{Script}
 use Rattle.script_read.specs.declared.script.SourceForm.TheVariants.{Inline, Files}
 use Rattle.script_read.specs.declared.script.SourceText.{SourceText}
 use Rattle.script_read.specs.Commands.{command_of}
 use Rattle.script_read.specs.Later.{comes_later}
 use Rattle.script_read.specs.Lines.{lines_of, cleaned, is_passed, line_step}
-use Rattle.script_read.specs.Meaning.{lines_at, HasEdges, after, vertex_text, edge_text, actor_text, record_lines, files_text, source_lines, phase_lines, script_lines, kept_lines}
-use Rattle.script_read.specs.Places.{new_source, inline_line, files_line, source_line, vertex_line, edge_line, end_line, phase_line, actor_line, command_line, built_line, line_in}
-use Rattle.script_read.specs.Script.{opening, phases_at, ended, lines_read, script_of, ReadsScript}
+use Rattle.script_read.specs.Meaning.{lines_at, phase_lines_at, HasEdges, after, vertex_text, edge_text, actor_text, record_lines, files_text, source_lines, phase_lines, script_lines, kept_lines}
+use Rattle.script_read.specs.Sections.{new_source, inline_line, files_line, source_line, vertex_line, edge_line, end_line, blocks_at, phase_ended, first_phase_line, phase_line, actor_name, number_of, new_block, with_actor, block_opened, actor_line, command_added, command_line, built_line, line_in}
+use Rattle.script_read.specs.Script.{opening, phases_so_far, phases_at, ended, lines_read, script_of}
 use Rattle.script_read.specs.Words.{same, word_at, word_count, name, file_name, key, alone, one_name}
 use Rattle.script_read.proofs.Inversions.{err_ok, not_not, carried, passed, either, first, named, file_named, both, two_spelled, three_spelled, four_spelled, same_is, at_line_ok}
+use Rattle.script_read.proofs.Blocks.{ArePhases, one_more, with_lines, number_names, block_spelled, command_spelled}
 use Rattle.script_read.proofs.Forms.{command_line_is}
 use Rattle.script_read.proofs.Numbers.{key_spelled}
 use Rattle.script_read.proofs.Shapes.{Begins, behind, alone_is, one_name_is}
-use Rattle.script_read.proofs.Kept.{AtPlace, IsReading, keeps, opens_well}
+use Rattle.script_read.proofs.Kept.{AtSection, Phased, Within, within, IsReading, may_begin, keeps, opens_well}
 
 -- ---- one line each
 
@@ -56,36 +55,28 @@ edge_text_is line k from to w n h g i =
 
 -- ---- what is read so far
 
--- the lines of the phase that is open
-abbrev open_phase : List (List ℕ) → List Command → List (List ℕ)
-open_phase actors commands = codes "phase" ∷ (map actor_text actors ++ map (λ (c : Command). c.line) commands)
-
--- no command stands before an actor
-abbrev ClearAt : Place → Reading → Type 0
-ClearAt place.Start s = s.commands ≡ []
-ClearAt place.Vertices s = (s.commands ≡ []) × (s.source.edges ≡ [])
-ClearAt place.Edges s = (s.commands ≡ []) × (s.source.edges ≢ [])
-ClearAt place.Phase s = s.commands ≡ []
-ClearAt place.Actor s = ⊤
+-- whether an `e` line stands in the open source, as the section says
+abbrev ClearAt : Section → Reading → Type 0
+ClearAt p s = HasEdges p s.source.edges
 
 record Telling (s : Reading) (told : List (List ℕ)) : Type 0 where
-  tells : lines_at s.place s ≡ told
-  clear : ClearAt s.place s
+  tells : lines_at s.section s ≡ told
+  clear : ClearAt s.section s
 
 -- one more line behind what is told
 more : (a x told : List (List ℕ)) (l m : List ℕ) → a ++ x ≡ told → m ≡ l → a ++ (x ++ l ∷ []) ≡ told ++ m ∷ []
 more a x told l m h e = rw e (sym (append_assoc a x (l ∷ [])) ∙ ap (λ (z : List (List ℕ)). z ++ l ∷ []) h)
 
-told_same : (p q : Place) (s : Reading) (told : List (List ℕ)) → p ≡ q → lines_at q s ≡ told → lines_at p s ≡ told
+told_same : (p q : Section) (s : Reading) (told : List (List ℕ)) → p ≡ q → lines_at q s ≡ told → lines_at p s ≡ told
 told_same p q s told e h = rw e h
 
-clear_same : (p q : Place) (s : Reading) → p ≡ q → ClearAt q s → ClearAt p s
+clear_same : (p q : Section) (s : Reading) → p ≡ q → ClearAt q s → ClearAt p s
 clear_same p q s e h = rw e h
 
-tells_by : (p : Place) (s : Reading) (told : List (List ℕ)) → s.place ≡ p → lines_at p s ≡ told → ClearAt p s → Telling s told
-tells_by p s told at h clear = record { tells = told_same s.place p s told at h; clear = clear_same s.place p s at clear }
+tells_by : (p : Section) (s : Reading) (told : List (List ℕ)) → s.section ≡ p → lines_at p s ≡ told → ClearAt p s → Telling s told
+tells_by p s told at h clear = record { tells = told_same s.section p s told at h; clear = clear_same s.section p s at clear }
 
-tells_inline : (s t : Reading) (line : List ℕ) (told : List (List ℕ)) → lines_at place.Start s ≡ told → ClearAt place.Start s
+tells_inline : (s t : Reading) (line : List ℕ) (told : List (List ℕ)) → lines_at section.Start s ≡ told → ClearAt section.Start s
     → Begins line (codes "source") → inline_line s line ≡ Ok t → Telling t (told ++ line ∷ [])
 unfolding inline_line
 tells_inline s t line told h clear w e =
@@ -94,15 +85,15 @@ tells_inline s t line told h clear w e =
     let b = first (name (word_at line 1)) _ t a.1 in
     let n = named _ _ b.1 in
     let c = first (new_source s.sources b.0) _ t b.2 in
-    carried (λ (x : Reading). Telling x (told ++ line ∷ [])) (record s { place = place.Vertices; source = record { name = b.0; vertices = []; edges = [] } }) t c.2
-    (record { tells = rw (h, ← source_text_is line b.0 w f.0 f.1 n.0) refl; clear = (clear, refl) })
+    carried (λ (x : Reading). Telling x (told ++ line ∷ [])) (record s { section = section.Vertices; source = record { name = b.0; vertices = []; edges = [] } }) t c.2
+    (record { tells = rw (h, ← source_text_is line b.0 w f.0 f.1 n.0) refl; clear = refl })
 
 told_files : (sources : List SourceText) (n config : List ℕ) (told : List (List ℕ)) (line : List ℕ)
     → flat_map source_lines sources ≡ told → line ≡ files_text n config None → flat_map source_lines (sources ++ record { name = n; form = Files config None } ∷ []) ≡ told ++ line ∷ []
 told_files sources n config told line h e =
     rw (e, ← h) (flat_map-append source_lines sources (record { name = n; form = Files config None } ∷ []))
 
-tells_files : (s t : Reading) (line : List ℕ) (told : List (List ℕ)) → s.place ≡ place.Start → lines_at place.Start s ≡ told → ClearAt place.Start s
+tells_files : (s t : Reading) (line : List ℕ) (told : List (List ℕ)) → s.section ≡ section.Start → lines_at section.Start s ≡ told → ClearAt section.Start s
     → Begins line (codes "source") → files_line s line ≡ Ok t → Telling t (told ++ line ∷ [])
 unfolding files_line
 tells_files s t line told at h clear w e =
@@ -115,9 +106,9 @@ tells_files s t line told at h clear w e =
     let d = first (new_source s.sources b.0) _ t c.2 in
     let new : Reading = record s { sources = s.sources ++ record { name = b.0; form = Files c.0 None } ∷ [] } in
     carried (λ (x : Reading). Telling x (told ++ line ∷ [])) new t d.2
-    (tells_by place.Start new _ at (told_files s.sources b.0 c.0 told line h (files_text_is line b.0 c.0 w f.0 f.1 n.0 m.0)) clear)
+    (tells_by section.Start new _ at (told_files s.sources b.0 c.0 told line h (files_text_is line b.0 c.0 w f.0 f.1 n.0 m.0)) clear)
 
-tells_source : (s t : Reading) (line : List ℕ) (told : List (List ℕ)) → s.place ≡ place.Start → lines_at place.Start s ≡ told → ClearAt place.Start s
+tells_source : (s t : Reading) (line : List ℕ) (told : List (List ℕ)) → s.section ≡ section.Start → lines_at section.Start s ≡ told → ClearAt section.Start s
     → Begins line (codes "source") → source_line s line ≡ Ok t → Telling t (told ++ line ∷ [])
 unfolding source_line
 tells_source s t line told at h clear w e =
@@ -138,7 +129,7 @@ told_vertex : (a : List (List ℕ)) (n : List ℕ) (vs : List ℤ) (es : List (�
 told_vertex a n vs es k told line none h e =
     rw (none, opened_vertex n vs k) (more a (record_lines n vs []) told (vertex_text k) line (rw none at h) e)
 
-tells_vertex : (s t : Reading) (line : List ℕ) (told : List (List ℕ)) → s.place ≡ place.Vertices → lines_at place.Vertices s ≡ told → ClearAt place.Vertices s
+tells_vertex : (s t : Reading) (line : List ℕ) (told : List (List ℕ)) → s.section ≡ section.Vertices → lines_at section.Vertices s ≡ told → ClearAt section.Vertices s
     → Begins line (codes "v") → vertex_line s line ≡ Ok t → Telling t (told ++ line ∷ [])
 unfolding vertex_line
 tells_vertex s t line told at h clear w e =
@@ -146,8 +137,8 @@ tells_vertex s t line told at h clear w e =
     let b = first (key (word_at line 1)) _ t a.1 in
     let new : Reading = record s { source = record s.source { vertices = s.source.vertices ++ b.0 ∷ [] } } in
     carried (λ (x : Reading). Telling x (told ++ line ∷ [])) new t b.2
-    (tells_by place.Vertices new _ at
-    (told_vertex (flat_map source_lines s.sources) s.source.name s.source.vertices s.source.edges b.0 told line clear.1 h (vertex_text_is line b.0 w a.0 b.1)) clear)
+    (tells_by section.Vertices new _ at
+    (told_vertex (flat_map source_lines s.sources) s.source.name s.source.vertices s.source.edges b.0 told line clear h (vertex_text_is line b.0 w a.0 b.1)) clear)
 
 told_edge : (a : List (List ℕ)) (n : List ℕ) (vs : List ℤ) (es : List (ℤ × ℤ × ℤ)) (x : ℤ × ℤ × ℤ) (told : List (List ℕ)) (line : List ℕ)
     → a ++ record_lines n vs es ≡ told → line ≡ edge_text x → a ++ record_lines n vs (es ++ x ∷ []) ≡ told ++ line ∷ []
@@ -157,19 +148,19 @@ not_empty : {A : Type 0} (xs : List A) (x : A) → xs ++ x ∷ [] ≢ []
 not_empty [] x h = cc
 not_empty (y ∷ ys) x h = cc
 
-tells_edge : (s t : Reading) (line : List ℕ) (told : List (List ℕ)) → lines_at place.Edges s ≡ told → s.commands ≡ []
+tells_edge : (s t : Reading) (line : List ℕ) (told : List (List ℕ)) → lines_at section.Edges s ≡ told
     → Begins line (codes "e") → edge_line s line ≡ Ok t → Telling t (told ++ line ∷ [])
 unfolding edge_line
-tells_edge s t line told h clear w e =
+tells_edge s t line told h w e =
     let a = passed _ why.Form _ t e in
     let b = first (key (word_at line 1)) _ t a.1 in
     let c = first (key (word_at line 2)) _ t b.2 in
     let d = first (key (word_at line 3)) _ t c.2 in
     carried (λ (x : Reading). Telling x (told ++ line ∷ []))
-    (record s { place = place.Edges; source = record s.source { edges = s.source.edges ++ (b.0, c.0, d.0) ∷ [] } }) t d.2
+    (record s { section = section.Edges; source = record s.source { edges = s.source.edges ++ (b.0, c.0, d.0) ∷ [] } }) t d.2
     (record {
       tells = told_edge (flat_map source_lines s.sources) s.source.name s.source.vertices s.source.edges (b.0, c.0, d.0) told line h (edge_text_is line b.0 c.0 d.0 w a.0 b.1 c.1 d.1);
-      clear = (clear, not_empty s.source.edges (b.0, c.0, d.0));
+      clear = not_empty s.source.edges (b.0, c.0, d.0);
     })
 
 told_end : (sources : List SourceText) (n : List ℕ) (vs : List ℤ) (es : List (ℤ × ℤ × ℤ)) (told : List (List ℕ)) (line : List ℕ)
@@ -179,95 +170,129 @@ told_end sources n vs es told line h e =
     ∙ (ap (λ (z : List (List ℕ)). flat_map source_lines sources ++ z) (append-nil (record_lines n vs es ++ codes "end" ∷ []))
     ∙ more (flat_map source_lines sources) (record_lines n vs es) told (codes "end") line h e)
 
-tells_end : (s t : Reading) (line : List ℕ) (told : List (List ℕ)) → lines_at place.Edges s ≡ told → s.commands ≡ []
+tells_end : (s t : Reading) (line : List ℕ) (told : List (List ℕ)) → lines_at section.Edges s ≡ told
     → Begins line (codes "end") → end_line s line ≡ Ok t → Telling t (told ++ line ∷ [])
 unfolding end_line
-tells_end s t line told h clear w e =
+tells_end s t line told h w e =
     let a = first (alone line) _ t e in
     carried (λ (x : Reading). Telling x (told ++ line ∷ []))
     (record s {
-      place = place.Start;
+      section = section.Start;
       sources = s.sources ++ record { name = s.source.name; form = Inline s.source.vertices s.source.edges } ∷ [];
       source = record { name = []; vertices = []; edges = [] };
     }) t a.2
-    (record { tells = told_end s.sources s.source.name s.source.vertices s.source.edges told line h (alone_is line (codes "end") a.0 w a.1); clear = clear })
+    (record { tells = told_end s.sources s.source.name s.source.vertices s.source.edges told line h (alone_is line (codes "end") a.0 w a.1); clear = tt })
 
-tells_phase : (s t : Reading) (line : List ℕ) (told : List (List ℕ)) → lines_at place.Start s ≡ told → ClearAt place.Start s
+told_first : (names : List (List ℕ)) (phases : List (List Block)) (blocks : List Block) → phases ≡ [] → blocks ≡ [] → flat_map (phase_lines names) (phases ++ blocks ∷ []) ≡ codes "phase" ∷ []
+told_first names phases blocks e f = rw (e, f) refl
+
+tells_first_phase : (s t : Reading) (line : List ℕ) (told : List (List ℕ)) → AtSection section.Start s → lines_at section.Start s ≡ told
+    → Begins line (codes "phase") → first_phase_line s line ≡ Ok t → Telling t (told ++ line ∷ [])
+unfolding first_phase_line
+tells_first_phase s t line told here h w e =
+    let a = first (alone line) _ t e in
+    carried (λ (x : Reading). Telling x (told ++ line ∷ [])) (record s { section = section.Phase }) t a.2
+    (record { tells = rw (told_first s.actors s.phases s.blocks here.phases here.blocks, h, alone_is line (codes "phase") a.0 w a.1) refl; clear = tt })
+
+-- the lines of the sources and of phases
+abbrev told_phases : Reading → List (List Block) → List (List ℕ)
+told_phases s phases = flat_map source_lines s.sources ++ flat_map (phase_lines s.actors) phases
+
+-- more lines of phases behind what is told
+more_lines : (a x y told : List (List ℕ)) (l m : List ℕ) → y ≡ x ++ l ∷ [] → a ++ x ≡ told → m ≡ l → a ++ y ≡ told ++ m ∷ []
+more_lines a x y told l m f h e = ap (λ (z : List (List ℕ)). a ++ z) f ∙ more a x told l m h e
+
+tells_phase : (s t : Reading) (line : List ℕ) (told : List (List ℕ)) → told_phases s (s.phases ++ blocks_at s.section s ∷ []) ≡ told
     → Begins line (codes "phase") → phase_line s line ≡ Ok t → Telling t (told ++ line ∷ [])
 unfolding phase_line
-tells_phase s t line told h clear w e =
+tells_phase s t line told h w e =
     let a = first (alone line) _ t e in
-    carried (λ (x : Reading). Telling x (told ++ line ∷ [])) (record s { place = place.Phase }) t a.2
-    (record { tells = rw (h, alone_is line (codes "phase") a.0 w a.1) refl; clear = clear })
-
-told_actor : (a : List (List ℕ)) (actors : List (List ℕ)) (commands : List Command) (actor : List ℕ) (told : List (List ℕ)) (line : List ℕ)
-    → actors ≡ [] → commands ≡ [] → a ++ open_phase [] [] ≡ told → line ≡ actor_text actor → a ++ open_phase (actors ++ actor ∷ []) commands ≡ told ++ line ∷ []
-told_actor a actors commands actor told line none clear h e =
-    rw (none, clear) (more a (open_phase [] []) told (actor_text actor) line h e)
-
-tells_actor : (s t : Reading) (line : List ℕ) (told : List (List ℕ)) → AtPlace place.Phase s → lines_at place.Phase s ≡ told → ClearAt place.Phase s
-    → Begins line (codes "actor") → actor_line s line ≡ Ok t → Telling t (told ++ line ∷ [])
-unfolding actor_line
-tells_actor s t line told here h clear w e =
-    let a = first (one_name line) _ t e in
-    carried (λ (x : Reading). Telling x (told ++ line ∷ [])) (record s { place = place.Actor; actors = s.actors ++ a.0 ∷ [] }) t a.2
+    let before = s.phases ++ blocks_at s.section s ∷ [] in
+    carried (λ (x : Reading). Telling x (told ++ line ∷ [])) (record (phase_ended s) { section = section.Phase }) t a.2
     (record {
-      tells = told_actor (flat_map source_lines s.sources) s.actors s.commands a.0 told line here clear h (one_name_is line (codes "actor") a.0 w a.1).spells;
+      tells = more_lines (flat_map source_lines s.sources) (flat_map (phase_lines s.actors) before) _ told (codes "phase") line
+          (one_more (phase_lines s.actors) before []) h (alone_is line (codes "phase") a.0 w a.1);
       clear = tt;
     })
 
-told_command : (a : List (List ℕ)) (actors : List (List ℕ)) (commands : List Command) (c : Command) (told : List (List ℕ)) (line : List ℕ)
-    → a ++ open_phase actors commands ≡ told → line ≡ c.line → a ++ open_phase actors (commands ++ c ∷ []) ≡ told ++ line ∷ []
-told_command a actors commands c told line h e =
-    rw (map-append (λ (c : Command). c.line) commands (c ∷ []), ← append_assoc (map actor_text actors) (map (λ (c : Command). c.line) commands) (c.line ∷ []))
-    (more a (open_phase actors commands) told c.line line h e)
+told_actor : (names : List (List ℕ)) (phases : List (List Block)) (blocks : List Block) (actor : List ℕ) (n k : ℕ) → ArePhases names (phases ++ blocks ∷ []) n → number_of names actor ≡ k
+    → flat_map (phase_lines (with_actor names actor k)) (phases ++ (blocks ++ record { actor = k; commands = [] } ∷ []) ∷ [])
+    ≡ flat_map (phase_lines names) (phases ++ blocks ∷ []) ++ actor_text actor ∷ []
+told_actor names phases blocks actor n k h e =
+    let f : actor_name (with_actor names actor k) k ≡ actor = subst (λ (j : ℕ). actor_name (with_actor names actor j) j ≡ actor) e (number_names names actor) in
+    block_spelled (with_actor names actor k) phases blocks k actor f
+    ∙ ap (λ (z : List (List ℕ)). z ++ actor_text actor ∷ []) (with_lines names actor k (phases ++ blocks ∷ []) h.phases)
 
-tells_command : (s t : Reading) (line : List ℕ) (told : List (List ℕ)) → s.place ≡ place.Actor → lines_at place.Actor s ≡ told
+tells_actor : (s t : Reading) (line : List ℕ) (told : List (List ℕ)) → Within s → told_phases s (s.phases ++ blocks_at s.section s ∷ []) ≡ told
+    → Begins line (codes "actor") → actor_line s line ≡ Ok t → Telling t (told ++ line ∷ [])
+unfolding actor_line
+tells_actor s t line told run h w e =
+    let a = first (one_name line) _ t e in
+    let b = first (new_block (blocks_at s.section s) (number_of s.actors a.0)) _ t a.2 in
+    let m = may_begin (blocks_at s.section s) (number_of s.actors a.0) b.0 b.1 in
+    carried (λ (x : Reading). Telling x (told ++ line ∷ [])) (block_opened s a.0 b.0) t b.2
+    (record {
+      tells = more_lines (flat_map source_lines s.sources) (flat_map (phase_lines s.actors) (s.phases ++ blocks_at s.section s ∷ [])) _ told (actor_text a.0) line
+          (told_actor s.actors s.phases (blocks_at s.section s) a.0 s.command_count b.0 run m.is) h (one_name_is line (codes "actor") a.0 w a.1).spells;
+      clear = tt;
+    })
+
+tells_command : (s t : Reading) (line : List ℕ) (told : List (List ℕ)) → s.section ≡ section.Actor → lines_at section.Actor s ≡ told
     → command_line s line ≡ Ok t → Telling t (told ++ line ∷ [])
 unfolding command_line
 tells_command s t line told at h e =
     let a = first (command_of line) _ t e in
-    let b = passed (nat_le 65536 (length s.commands)) why.Many _ t a.2 in
-    let new : Reading = record s { commands = s.commands ++ a.0 ∷ [] } in
+    let b = passed (nat_le 65536 s.command_count) why.Many _ t a.2 in
+    let new = command_added s a.0 in
     carried (λ (x : Reading). Telling x (told ++ line ∷ [])) new t b.1
-    (tells_by place.Actor new _ at
-    (told_command (flat_map source_lines s.sources) s.actors s.commands a.0 told line h (sym (command_line_is line a.0 a.1))) tt)
+    (tells_by section.Actor new _ at
+    (more_lines (flat_map source_lines s.sources) (phase_lines_at section.Actor s) (phase_lines_at section.Actor new) told a.0.line line
+    (command_spelled s.actors s.phases s.blocks s.block a.0) h (sym (command_line_is line a.0 a.1))) tt)
 
 no_word : (s t : Reading) (told : List (List ℕ)) → Err why.Word ≡ Ok t → Telling t told
 no_word s t told e = absurd (err_ok why.Word t e)
 
-tells_built : (p : Place) (s t : Reading) (line : List ℕ) (told : List (List ℕ)) → s.place ≡ p → AtPlace p s → lines_at p s ≡ told → ClearAt p s
+told_within : (p : Section) (s : Reading) (told : List (List ℕ)) → s.section ≡ p → told_phases s (s.phases ++ blocks_at p s ∷ []) ≡ told → told_phases s (s.phases ++ blocks_at s.section s ∷ []) ≡ told
+told_within p s told at h = subst (λ (q : Section). told_phases s (s.phases ++ blocks_at q s ∷ []) ≡ told) (sym at) h
+
+tells_built : (p : Section) (s t : Reading) (line : List ℕ) (told : List (List ℕ)) → s.section ≡ p → AtSection p s → Phased p s → lines_at p s ≡ told → ClearAt p s
     → built_line p s line ≡ Ok t → Telling t (told ++ line ∷ [])
 unfolding built_line
-tells_built place.Start s t line told at here h clear e =
+tells_built section.Start s t line told at here run h clear e =
     either (same (word_at line 0) (codes "source")) _ _ t _ (λ w g. tells_source s t line told at h clear w g)
-    (either (same (word_at line 0) (codes "phase")) _ _ t _ (λ w g. tells_phase s t line told h clear w g) (no_word s t _)) e
-tells_built place.Vertices s t line told at here h clear e =
+    (either (same (word_at line 0) (codes "phase")) _ _ t _ (λ w g. tells_first_phase s t line told here h w g) (no_word s t _)) e
+tells_built section.Vertices s t line told at here run h clear e =
     either (same (word_at line 0) (codes "v")) _ _ t _ (λ w g. tells_vertex s t line told at h clear w g)
-    (either (same (word_at line 0) (codes "e")) _ _ t _ (λ w g. tells_edge s t line told h clear.0 w g)
-    (either (same (word_at line 0) (codes "end")) _ _ t _ (λ w g. tells_end s t line told h clear.0 w g) (no_word s t _))) e
-tells_built place.Edges s t line told at here h clear e =
-    either (same (word_at line 0) (codes "e")) _ _ t _ (λ w g. tells_edge s t line told h clear.0 w g)
-    (either (same (word_at line 0) (codes "end")) _ _ t _ (λ w g. tells_end s t line told h clear.0 w g) (no_word s t _)) e
-tells_built place.Phase s t line told at here h clear e =
-    either (same (word_at line 0) (codes "actor")) _ _ t _ (λ w g. tells_actor s t line told here h clear w g) (no_word s t _) e
-tells_built place.Actor s t line told at here h clear e = tells_command s t line told at h e
+    (either (same (word_at line 0) (codes "e")) _ _ t _ (λ w g. tells_edge s t line told h w g)
+    (either (same (word_at line 0) (codes "end")) _ _ t _ (λ w g. tells_end s t line told h w g) (no_word s t _))) e
+tells_built section.Edges s t line told at here run h clear e =
+    either (same (word_at line 0) (codes "e")) _ _ t _ (λ w g. tells_edge s t line told h w g)
+    (either (same (word_at line 0) (codes "end")) _ _ t _ (λ w g. tells_end s t line told h w g) (no_word s t _)) e
+tells_built section.Phase s t line told at here run h clear e =
+    either (same (word_at line 0) (codes "phase")) _ _ t _ (λ w g. tells_phase s t line told (told_within section.Phase s told at h) w g)
+    (either (same (word_at line 0) (codes "actor")) _ _ t _
+    (λ w g. tells_actor s t line told (within section.Phase s at run) (told_within section.Phase s told at h) w g) (no_word s t _)) e
+tells_built section.Actor s t line told at here run h clear e =
+    either (same (word_at line 0) (codes "phase")) _ _ t _ (λ w g. tells_phase s t line told (told_within section.Actor s told at h) w g)
+    (either (same (word_at line 0) (codes "actor")) _ _ t _
+    (λ w g. tells_actor s t line told (within section.Actor s at run) (told_within section.Actor s told at h) w g)
+    (λ g. tells_command s t line told at h g)) e
 
-tells_in : (p : Place) (s t : Reading) (line : List ℕ) (told : List (List ℕ)) → s.place ≡ p → AtPlace p s → lines_at p s ≡ told → ClearAt p s
+tells_in : (p : Section) (s t : Reading) (line : List ℕ) (told : List (List ℕ)) → s.section ≡ p → AtSection p s → Phased p s → lines_at p s ≡ told → ClearAt p s
     → line_in p s line ≡ Ok t → Telling t (told ++ line ∷ [])
 unfolding line_in
-tells_in p s t line told at here h clear e =
-    tells_built p s t line told at here h clear (passed (comes_later p (word_at line 0)) why.Later _ t e).1
+tells_in p s t line told at here run h clear e =
+    tells_built p s t line told at here run h clear (passed (comes_later p (word_at line 0)) why.Later _ t e).1
 
 -- the line, where it is not passed over
 abbrev kept : List ℕ → List (List ℕ)
 kept line = if is_passed line then [] else line ∷ []
 
 tells_step : (b : Bool) (s t : Reading) (line : List ℕ) (told : List (List ℕ)) → IsReading s → Telling s told
-    → (if b then Ok s else if not (is_utf8 line) then Err why.Utf8 else line_in s.place s line) ≡ Ok t → Telling t (told ++ (if b then [] else line ∷ []))
+    → (if b then Ok s else if not (is_utf8 line) then Err why.Utf8 else line_in s.section s line) ≡ Ok t → Telling t (told ++ (if b then [] else line ∷ []))
 tells_step true s t line told good h e = rw (append-nil told) (carried (λ (x : Reading). Telling x told) s t e h)
 tells_step false s t line told good h e =
-    tells_in s.place s t line told refl good.stands h.tells h.clear (passed (not (is_utf8 line)) why.Utf8 _ t e).1
+    tells_in s.section s t line told refl good.stands good.phased h.tells h.clear (passed (not (is_utf8 line)) why.Utf8 _ t e).1
 
 tells_line : (s t : Reading) (line : List ℕ) (told : List (List ℕ)) → IsReading s → Telling s told → line_step s line ≡ Ok t → Telling t (told ++ kept line)
 unfolding line_step
@@ -275,30 +300,22 @@ tells_line s t line told good h e = tells_step (is_passed line) s t line told go
 
 -- ---- the end
 
-one_phase : (actors : List (List ℕ)) (actor : List ℕ) (commands : List Command) → actors ≡ actor ∷ []
-    → flat_map (phase_lines actors) ((record { actor = 1; commands = commands } ∷ []) ∷ []) ≡ open_phase actors commands
-one_phase actors actor commands e =
-    rw e (append-nil _ ∙ ap (λ (z : List (List ℕ)). codes "phase" ∷ z) (append-nil (actor_text actor ∷ map (λ (c : Command). c.line) commands)))
-
-script_at : (p : Place) (s : Reading) (told : List (List ℕ)) (phases : List (List Block)) → AtPlace p s → lines_at p s ≡ told → phases_at p s.commands ≡ Ok phases
-    → flat_map source_lines s.sources ++ flat_map (phase_lines s.actors) phases ≡ told
-script_at place.Start s told phases here h e =
-    carried (λ (x : List (List Block)). flat_map source_lines s.sources ++ flat_map (phase_lines s.actors) x ≡ told) [] phases e (append-nil _ ∙ h)
-script_at place.Vertices s told phases here h e = absurd (err_ok why.End phases e)
-script_at place.Edges s told phases here h e = absurd (err_ok why.End phases e)
-script_at place.Phase s told phases here h e =
-    carried (λ (x : List (List Block)). flat_map source_lines s.sources ++ flat_map (phase_lines s.actors) x ≡ told) ([] ∷ []) phases e h
-script_at place.Actor s told phases here h e =
-    carried (λ (x : List (List Block)). flat_map source_lines s.sources ++ flat_map (phase_lines s.actors) x ≡ told)
-    ((record { actor = 1; commands = s.commands } ∷ []) ∷ []) phases e
-    (ap (λ (z : List (List ℕ)). flat_map source_lines s.sources ++ z) (one_phase s.actors here.0 s.commands here.1) ∙ h)
+script_at : (p : Section) (s : Reading) (told : List (List ℕ)) (phases : List (List Block)) → AtSection p s → lines_at p s ≡ told → phases_at p s ≡ Ok phases → told_phases s phases ≡ told
+script_at section.Start s told phases here h e =
+    carried (λ (x : List (List Block)). told_phases s x ≡ told) s.phases phases e (rw here.phases (append-nil _ ∙ h))
+script_at section.Vertices s told phases here h e = absurd (err_ok why.End phases e)
+script_at section.Edges s told phases here h e = absurd (err_ok why.End phases e)
+script_at section.Phase s told phases here h e =
+    carried (λ (x : List (List Block)). told_phases s x ≡ told) (phases_so_far section.Phase s) phases e h
+script_at section.Actor s told phases here h e =
+    carried (λ (x : List (List Block)). told_phases s x ≡ told) (phases_so_far section.Actor s) phases e h
 
 ends_told : (n : ℕ) (s : Reading) (told : List (List ℕ)) (script : Script) → IsReading s → Telling s told → ended n s ≡ Ok script → script_lines script ≡ told
 unfolding ended
 ends_told n s told script good h e =
-    let a = at_line_ok n (phases_at s.place s.commands) _ script e in
+    let a = at_line_ok n (phases_at s.section s) _ script e in
     carried (λ (x : Script). script_lines x ≡ told) (record { sources = s.sources; actors = s.actors; phases = a.0 }) script a.2
-    (script_at s.place s told a.0 good.stands h.tells a.1)
+    (script_at s.section s told a.0 good.stands h.tells a.1)
 
 kept_by : (b : Bool) (told : List (List ℕ)) (line : List ℕ) (lines : List (List ℕ)) → (told ++ (if b then [] else line ∷ [])) ++ lines ≡ told ++ (if b then lines else line ∷ lines)
 kept_by true told line lines = ap (λ (z : List (List ℕ)). z ++ lines) (append-nil told)
@@ -308,15 +325,8 @@ kept_more : (told : List (List ℕ)) (line : List ℕ) (lines : List (List ℕ))
 kept_more told line lines = kept_by (is_passed (cleaned line)) told (cleaned line) (kept_lines lines)
 
 pub record Spells (s : Reading) (lines : List (List ℕ)) : Type 0 where
-  pub spells : lines_at s.place s ≡ kept_lines lines
-  pub edges : HasEdges s.place s.source.edges
-
-edges_at : (p : Place) (s : Reading) → ClearAt p s → HasEdges p s.source.edges
-edges_at place.Start s clear = tt
-edges_at place.Vertices s clear = clear.1
-edges_at place.Edges s clear = clear.1
-edges_at place.Phase s clear = tt
-edges_at place.Actor s clear = tt
+  pub spells : lines_at s.section s ≡ kept_lines lines
+  pub edges : HasEdges s.section s.source.edges
 
 after_told : (s t : Reading) (lines told : List (List ℕ)) → IsReading s → Telling s told → after s lines ≡ Ok t → Telling t (told ++ kept_lines lines)
 after_told s t [] told good h e = rw (append-nil told) (carried (λ (x : Reading). Telling x told) s t e h)
@@ -328,8 +338,8 @@ after_told s t (line ∷ lines) told good h e =
 -- what is left of the first lines spells them
 pub first_lines : (t : Reading) (lines : List (List ℕ)) → after opening lines ≡ Ok t → Spells t lines
 first_lines t lines e =
-    let h = after_told opening t lines [] opens_well (record { tells = refl; clear = refl }) e in
-    record { spells = h.tells; edges = edges_at t.place t h.clear }
+    let h = after_told opening t lines [] opens_well (record { tells = refl; clear = tt }) e in
+    record { spells = h.tells; edges = h.clear }
 
 reads_told : (n : ℕ) (s : Reading) (lines : List (List ℕ)) (told : List (List ℕ)) (script : Script) → IsReading s → Telling s told → lines_read n s lines ≡ Ok script
     → script_lines script ≡ told ++ kept_lines lines
@@ -341,6 +351,5 @@ reads_told n s (line ∷ lines) told script good h e =
     ∙ kept_more told line lines
 
 -- the lines that a script spells are those that it was read from
-pub spells_lines : (answer : Result Script ScriptFault) (bytes : List ℕ) → ReadsScript answer (script_of bytes) → IfOk answer (λ script. script_lines script ≡ kept_lines (lines_of bytes))
-spells_lines (Ok script) bytes h = reads_told 1 opening (lines_of bytes) [] script opens_well (record { tells = refl; clear = refl }) h
-spells_lines (Err e) bytes h = tt
+pub spells_lines : (script : Script) (bytes : List ℕ) → script_of bytes ≡ Ok script → script_lines script ≡ kept_lines (lines_of bytes)
+spells_lines script bytes h = reads_told 1 opening (lines_of bytes) [] script opens_well (record { tells = refl; clear = tt }) h

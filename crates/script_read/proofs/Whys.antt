@@ -1,22 +1,28 @@
 -- The why of a line is the first that it has by the table of the grammar.
-use Rattle.std.proofs.Common.{◌≡◌, ◌∙◌, sym, refl, ap, ℕ, ℤ, List, [], ◌∷◌, length, Bool, true, false, if◌then◌else◌, Option, Some, None, Result, Ok, Err, arith}
-use Rattle.std.specs.Prelude.{◌==◌, ◌&&◌, not, nat_le, slice_get, unwrap_or, find, codes, is_some}
+use Rattle.std.proofs.Common.{◌≡◌, ◌∙◌, sym, refl, ap, ℕ, ℤ, ◌+◌, ◌≤◌, List, [], ◌∷◌, ◌++◌, length, Bool, true, false, if◌then◌else◌, Option, Some, None, Result, Ok, Err, arith}
+use Rattle.std.specs.Prelude.{◌==◌, ◌&&◌, not, nat_le, nat_lt, slice_get, unwrap_or, find, codes, is_some}
+use Rattle.std.specs.List.{AllByRecursion}
 use Rattle.std.specs.Option.{option_or}
 use Rattle.std.specs.Result.{result_err}
 use Rattle.std.specs.Str.{is_utf8}
-use Rattle.std.proofs.lemmas.Bool.{ne_eqb}
+use Rattle.std.proofs.lemmas.Bool.{ne_eqb, ltb-true, ltb-false}
+use Rattle.std.proofs.lemmas.Bool.Decides.{nat_tests}
 use Rattle.script_read.specs.declared.fault.LineWhy.{LineWhy}
 use Rattle.script_read.specs.declared.fault.LineWhy.TheVariants as why
-use Rattle.script_read.specs.declared.reading.Place.{Place}
-use Rattle.script_read.specs.declared.reading.Place.TheVariants as place
+use Rattle.script_read.specs.declared.reading.Section.{Section}
+use Rattle.script_read.specs.declared.reading.Section.TheVariants as section
 use Rattle.script_read.specs.declared.reading.Reading.{Reading}
+use Rattle.script_read.specs.declared.script.Block.{Block}
 use Rattle.script_read.specs.Commands.{open_of, close_of, columns_of, load_of, clone_of, release_of, show_of, rows_of, graph_form_of, form_of, command_of}
 use Rattle.script_read.specs.Faults.{◌>>=◌}
-use Rattle.script_read.specs.Grammar.{Due, text, a_name, a_file, a_key, fits, Row, source_forms, rows_in, words_why, row_why, limit_why, first_why}
+use Rattle.script_read.specs.Grammar.{Due, text, a_name, a_file, a_key, fits, Row, source_forms, command_rows, rows_in, words_why, row_why, has_text, actors_here, source_why, actor_why, command_why, limit_why, first_why}
 use Rattle.script_read.specs.Later.{comes_later}
 use Rattle.script_read.specs.Lines.{is_passed, line_step}
-use Rattle.script_read.specs.Places.{has_source, new_source, inline_line, files_line, source_line, vertex_line, edge_line, end_line, phase_line, actor_line, command_line, built_line, line_in}
+use Rattle.script_read.specs.Sections.{new_source, inline_line, files_line, source_line, vertex_line, edge_line, end_line, blocks_at, first_phase_line, phase_line, number_of, has_block, new_block, actor_line, command_line, built_line, line_in}
+use Rattle.script_read.specs.Phases.{IsActor, IsPhase}
+use Rattle.script_read.proofs.Blocks.{index, number_is, index_most, index_found, here_is, all_last}
 use Rattle.script_read.proofs.Inversions.{same_is}
+use Rattle.script_read.proofs.Kept.{AtSection, Phased, IsReading}
 use Rattle.script_read.specs.Words.{same, words_of, word_count, word_at, is_name, name, is_file_name, file_name, key_number, or_number, key, alone, one_name, two_names}
 
 -- ---- steps
@@ -251,10 +257,14 @@ chosen words true x y row rest e f = e
 chosen words false x y row rest e f = f
 
 -- the row of a line in a place
-abbrev row_of : Place → List ℕ → Option Row
+abbrev row_of : Section → List ℕ → Option Row
 row_of p line = find (λ row. same (word_at line 0) row.0) (rows_in p)
 
-form_why : (line : List ℕ) → result_err (form_of line) ≡ row_why (words_of line) (row_of place.Actor line)
+-- the row of a command
+abbrev command_row : List ℕ → Option Row
+command_row line = find (λ row. same (word_at line 0) row.0) command_rows
+
+form_why : (line : List ℕ) → result_err (form_of line) ≡ row_why (words_of line) (command_row line)
 unfolding form_of graph_form_of
 form_why line =
     chosen _ (same (word_at line 0) (codes "open")) _ _ _ _ (open_why line)
@@ -273,12 +283,12 @@ full_by (Ok x) true f = refl
 full_by (Ok x) false f = refl
 full_by (Err w) full f = refl
 
-command_why : (s : Reading) (line : List ℕ)
-    → result_err (command_line s line) ≡ option_or (row_why (words_of line) (row_of place.Actor line)) (limit_why place.Actor s line)
+command_line_why : (s : Reading) (line : List ℕ) → IsReading s → result_err (command_line s line) ≡ option_or (row_why (words_of line) (command_row line)) (command_why s)
 unfolding command_line command_of
-command_why s line =
-    full_by (form_of line >>= (λ f. Ok (record { line = line; form = f }))) (nat_le 65536 (length s.commands)) _
-    ∙ ap (λ (o : Option LineWhy). option_or o (limit_why place.Actor s line)) (then_fine (form_of line) _ ∙ form_why line)
+command_line_why s line good =
+    full_by (form_of line >>= (λ f. Ok (record { line = line; form = f }))) (nat_le 65536 s.command_count) _
+    ∙ (ap (λ (o : Option LineWhy). option_or o (if nat_le 65536 s.command_count then Some why.Many else None)) (then_fine (form_of line) _ ∙ form_why line)
+    ∙ ap (λ (n : ℕ). option_or (row_why (words_of line) (command_row line)) (if nat_le 65536 n then Some why.Many else None)) good.phased.counted)
 
 -- one more source, and a step behind it that finds no fault
 source_test : {B : Type 0} (standing full : Bool) (x : B)
@@ -290,7 +300,7 @@ source_test false false x = refl
 
 -- what a source's name finds behind its words
 abbrev name_why : Reading → List ℕ → Option LineWhy
-name_why s line = if has_source s.sources (word_at line 1) then Some why.Twice else (if nat_le 64 (length s.sources) then Some why.Many else None)
+name_why s line = source_why s (word_at line 1)
 
 inline_why : (s : Reading) (line : List ℕ) → result_err (inline_line s line) ≡ option_or (words_why (inline_form ∷ []) (words_of line)) (name_why s line)
 unfolding inline_line new_source word_count word_at
@@ -300,17 +310,73 @@ files_why : (s : Reading) (line : List ℕ) → result_err (files_line s line) �
 unfolding files_line new_source word_count word_at
 files_why s line = filed_behind (words_of line) (codes "config") _ _ (source_test _ _ _)
 
-source_why : (s : Reading) (line : List ℕ) → result_err (source_line s line) ≡ option_or (words_why source_forms (words_of line)) (name_why s line)
+source_line_why : (s : Reading) (line : List ℕ) → result_err (source_line s line) ≡ option_or (words_why source_forms (words_of line)) (name_why s line)
 unfolding source_line word_at
-source_why s line = by_third (words_of line) (same (word_at line 2) (codes "config")) _ _ _ refl (files_why s line) (inline_why s line)
+source_line_why s line = by_third (words_of line) (same (word_at line 2) (codes "config")) _ _ _ refl (files_why s line) (inline_why s line)
+
+first_phase_why : (s : Reading) (line : List ℕ) → Why (first_phase_line s line) [] line
+unfolding first_phase_line
+first_phase_why s line = then_fine (alone line) _ ∙ alone_why line
 
 phase_why : (s : Reading) (line : List ℕ) → Why (phase_line s line) [] line
 unfolding phase_line
 phase_why s line = then_fine (alone line) _ ∙ alone_why line
 
-actor_why : (s : Reading) (line : List ℕ) → Why (actor_line s line) (a_name ∷ []) line
-unfolding actor_line
-actor_why s line = then_fine (one_name line) _ ∙ one_name_why line
+-- a name alone, and a step behind it
+named_behind : {B : Type 0} (words : List (List ℕ)) (f : List ℕ → Result B LineWhy) (o : Option LineWhy) → result_err (f (at words 1)) ≡ o
+    → result_err ((if not (length words == 2) then Err why.Form else name (at words 1)) >>= f) ≡ option_or (words_why ((a_name ∷ []) ∷ []) words) o
+named_behind [] f o h = refl
+named_behind (a ∷ []) f o h = refl
+named_behind (a ∷ b ∷ []) f o h = then_name b f o h ∙ sym (or_behind (is_name b) why.Name o)
+named_behind (a ∷ b ∷ c ∷ words) f o h = rw (ne_eqb (length (a ∷ b ∷ c ∷ words)) 2 (omega arith)) refl
+
+-- what the limits on actors find of a number
+abbrev number_why : List Block → ℕ → Option LineWhy
+number_why blocks k = if has_block blocks k then Some why.Twice else (if nat_lt 128 k then Some why.Many else None)
+
+new_block_by : (twice full : Bool) (k : ℕ)
+    → result_err {T = ℕ} (if twice then Err why.Twice else (if full then Err why.Many else Ok k)) ≡ (if twice then Some why.Twice else (if full then Some why.Many else None))
+new_block_by true full k = refl
+new_block_by false true k = refl
+new_block_by false false k = refl
+
+new_block_why : (blocks : List Block) (k : ℕ) → result_err (new_block blocks k) ≡ number_why blocks k
+unfolding new_block
+new_block_why blocks k = new_block_by (has_block blocks k) (nat_lt 128 k) k
+
+within_room : (i : ℕ) → i ≤ 128 → nat_lt 128 i ≡ false
+within_room i h = grind (arith, nat_tests)
+
+no_room : (i l : ℕ) → i ≡ l → nat_lt 128 (i + 1) ≡ nat_le 128 l
+no_room i l h = grind (arith, nat_tests)
+
+room_by : (t : Bool) (i l : ℕ) → nat_lt i l ≡ t → i ≤ l → l ≤ 128
+    → (if nat_lt 128 (i + 1) then Some why.Many else None) ≡ (if t then None else (if nat_le 128 l then Some why.Many else None))
+room_by true i l e h m = let f = ltb-true i l e in rw (within_room (i + 1) (omega (arith, f, m))) refl
+room_by false i l e h m = let f = ltb-false i l e in ap (λ (b : Bool). if b then Some why.Many else None) (no_room i l (omega (arith, f, h)))
+
+-- the actors of the open phase are of those that are known
+blocks_known : (p : Section) (s : Reading) → AtSection p s → Phased p s → AllByRecursion (λ (b : Block). IsActor (length s.actors) b.actor) (blocks_at p s)
+blocks_known section.Start s here run = rw here.blocks tt
+blocks_known section.Vertices s here run = rw here.before.blocks tt
+blocks_known section.Edges s here run = rw here.before.blocks tt
+blocks_known section.Phase s here run = (all_last (IsPhase (length s.actors)) s.phases s.blocks run.phases).known
+blocks_known section.Actor s here run = (all_last (IsPhase (length s.actors)) s.phases (s.blocks ++ s.block ∷ []) run.phases).known
+
+number_finds : (s : Reading) (name : List ℕ) → IsReading s → number_why (blocks_at s.section s) (number_of s.actors name) ≡ actor_why s name
+number_finds s name good =
+    let known = blocks_known s.section s good.stands good.phased in
+    ap (number_why (blocks_at s.section s)) (number_is s.actors name)
+    ∙ (ap (λ (b : Bool). if b then Some why.Twice else (if nat_lt 128 (index s.actors name + 1) then Some why.Many else None))
+    (sym (here_is s.actors name (blocks_at s.section s) good.phased.distinct known))
+    ∙ ap (λ (o : Option LineWhy). if has_text (actors_here s) name then Some why.Twice else o)
+    (room_by (has_text s.actors name) (index s.actors name) (length s.actors) (index_found s.actors name) (index_most s.actors name) good.phased.few))
+
+actor_line_why : (s : Reading) (line : List ℕ) → IsReading s → result_err (actor_line s line) ≡ option_or (words_why ((a_name ∷ []) ∷ []) (words_of line)) (actor_why s (word_at line 1))
+unfolding actor_line one_name word_count word_at
+actor_line_why s line good =
+    named_behind (words_of line) _ _ (then_fine (new_block (blocks_at s.section s) (number_of s.actors (at (words_of line) 1))) _
+    ∙ (new_block_why (blocks_at s.section s) (number_of s.actors (at (words_of line) 1)) ∙ number_finds s (at (words_of line) 1) good))
 
 vertex_why : (s : Reading) (line : List ℕ) → Why (vertex_line s line) (a_key ∷ []) line
 unfolding vertex_line word_count word_at
@@ -329,28 +395,40 @@ end_why s line = then_fine (alone line) _ ∙ alone_why line
 start_by : {A : Type 0} (words : List (List ℕ)) (source phase : Bool) (x y : Result A LineWhy) (r q : Row) (o : Option LineWhy)
     → result_err x ≡ option_or (words_why r.1 words) o → result_err y ≡ words_why q.1 words
     → result_err (if source then x else (if phase then y else Err why.Word))
-    ≡ option_or (row_why words (if source then Some r else (if phase then Some q else None))) (if not source then None else o)
+    ≡ option_or (row_why words (if source then Some r else (if phase then Some q else None))) (if source then o else None)
 start_by words true phase x y r q o e f = e
 start_by words false true x y r q o e f = f ∙ sym (or_none _)
 start_by words false false x y r q o e f = refl
 
--- a line of a place, by the table
-abbrev TableWhy : Place → Reading → List ℕ → Type 0
+within_by : {A : Type 0} (words : List (List ℕ)) (phase actor : Bool) (x y z : Result A LineWhy) (r q : Row) (rest : Option Row) (o c : Option LineWhy)
+    → result_err x ≡ words_why r.1 words → result_err y ≡ option_or (words_why q.1 words) o → result_err z ≡ option_or (row_why words rest) c
+    → result_err (if phase then x else (if actor then y else z))
+    ≡ option_or (row_why words (if phase then Some r else (if actor then Some q else rest))) (if phase then None else (if actor then o else c))
+within_by words true actor x y z r q rest o c e f g = e ∙ sym (or_none _)
+within_by words false true x y z r q rest o c e f g = f
+within_by words false false x y z r q rest o c e f g = g
+
+-- a line of a section, by the table
+abbrev TableWhy : Section → Reading → List ℕ → Type 0
 TableWhy p s line = result_err (built_line p s line) ≡ option_or (row_why (words_of line) (row_of p line)) (limit_why p s line)
 
-built_why : (p : Place) (s : Reading) (line : List ℕ) → TableWhy p s line
+built_why : (p : Section) (s : Reading) (line : List ℕ) → IsReading s → TableWhy p s line
 unfolding built_line
-built_why place.Start s line =
-    start_by (words_of line) (same (word_at line 0) (codes "source")) (same (word_at line 0) (codes "phase")) _ _ _ _ _ (source_why s line) (phase_why s line)
-built_why place.Vertices s line =
+built_why section.Start s line good =
+    start_by (words_of line) (same (word_at line 0) (codes "source")) (same (word_at line 0) (codes "phase")) _ _ _ _ _ (source_line_why s line) (first_phase_why s line)
+built_why section.Vertices s line good =
     chosen _ (same (word_at line 0) (codes "v")) _ _ _ _ (vertex_why s line)
     (chosen _ (same (word_at line 0) (codes "e")) _ _ _ _ (edge_why s line)
     (chosen _ (same (word_at line 0) (codes "end")) _ _ _ _ (end_why s line) refl)) ∙ sym (or_none _)
-built_why place.Edges s line =
+built_why section.Edges s line good =
     chosen _ (same (word_at line 0) (codes "e")) _ _ _ _ (edge_why s line)
     (chosen _ (same (word_at line 0) (codes "end")) _ _ _ _ (end_why s line) refl) ∙ sym (or_none _)
-built_why place.Phase s line = chosen _ (same (word_at line 0) (codes "actor")) _ _ _ _ (actor_why s line) refl ∙ sym (or_none _)
-built_why place.Actor s line = command_why s line
+built_why section.Phase s line good =
+    within_by (words_of line) (same (word_at line 0) (codes "phase")) (same (word_at line 0) (codes "actor")) _ _ _ _ _ _ _ _
+    (phase_why s line) (actor_line_why s line good) refl
+built_why section.Actor s line good =
+    within_by (words_of line) (same (word_at line 0) (codes "phase")) (same (word_at line 0) (codes "actor")) _ _ _ _ _ _ _ _
+    (phase_why s line) (actor_line_why s line good) (command_line_why s line good)
 
 -- the tests before the table
 before_by : {A : Type 0} (is_passed no_text later : Bool) (s : A) (r : Result A LineWhy) (o : Option LineWhy) → result_err r ≡ o
@@ -362,6 +440,6 @@ before_by false false true s r o h = refl
 before_by false false false s r o h = h
 
 -- what a line finds is its first why
-pub line_why : (s : Reading) (line : List ℕ) → result_err (line_step s line) ≡ first_why s line
+pub line_why : (s : Reading) (line : List ℕ) → IsReading s → result_err (line_step s line) ≡ first_why s line
 unfolding line_step line_in
-line_why s line = before_by (is_passed line) (not (is_utf8 line)) (comes_later s.place (word_at line 0)) s _ _ (built_why s.place s line)
+line_why s line good = before_by (is_passed line) (not (is_utf8 line)) (comes_later s.section (word_at line 0)) s _ _ (built_why s.section s line good)

@@ -2,7 +2,8 @@ pub mod Faults
 pub mod Words
 pub mod Commands
 pub mod Later
-pub mod Places
+pub mod Phases
+pub mod Sections
 pub mod Lines
 pub mod Grammar
 pub mod Script

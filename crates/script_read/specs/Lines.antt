@@ -5,7 +5,7 @@ use Rattle.std.specs.Str.Lines.{strip_carriage_return}
 use Rattle.script_read.specs.declared.fault.LineWhy.{LineWhy}
 use Rattle.script_read.specs.declared.fault.LineWhy.TheVariants as why
 use Rattle.script_read.specs.declared.reading.Reading.{Reading}
-use Rattle.script_read.specs.Places.{line_in}
+use Rattle.script_read.specs.Sections.{line_in}
 
 -- a byte before the first line
 abbrev pub onto_first : ℕ → List (List ℕ) → List (List ℕ)
@@ -35,4 +35,4 @@ unfoldable pub line_step : Reading → List ℕ → Result Reading LineWhy
 line_step s line =
     if is_passed line then Ok s
     else if not (is_utf8 line) then Err why.Utf8
-    else line_in s.place s line
+    else line_in s.section s line

@@ -1,13 +1,13 @@
 -- What a script that is read has, and what its first fault is.
-use Rattle.std.specs.Prelude.{◌≡◌, ◌≢◌, ◌≤◌, ◌-◌, ◌++◌, ℕ, ℤ, IsTrue, map, unwrap_or, slice_get, if◌then◌else◌, All, AllPairs, List, [], ◌∷◌, length, take, drop, codes, Option, Some, None, Result, Ok, ⊤}
-use Rattle.std.specs.List.{flat_map}
+use Rattle.std.specs.Prelude.{◌≡◌, ◌≢◌, ◌≤◌, ◌+◌, ◌-◌, ◌++◌, ◌⊎◌, ℕ, ℤ, IsTrue, map, if◌then◌else◌, All, AllPairs, List, [], ◌∷◌, length, take, drop, codes, Option, Some, None, Result, Ok, ⊤}
+use Rattle.std.specs.List.{flat_map, AllByRecursion}
 use Rattle.std.specs.Fmt.{signed_decimal}
 use Rattle.script_read.specs.declared.fault.LineWhy.{LineWhy}
 use Rattle.script_read.specs.declared.fault.LineWhy.TheVariants.{End}
 use Rattle.script_read.specs.declared.fault.ScriptFault.{ScriptFault}
 use Rattle.script_read.specs.declared.fault.ScriptFault.TheVariants.{BadLine, NoMemory}
-use Rattle.script_read.specs.declared.reading.Place.{Place}
-use Rattle.script_read.specs.declared.reading.Place.TheVariants as place
+use Rattle.script_read.specs.declared.reading.Section.{Section}
+use Rattle.script_read.specs.declared.reading.Section.TheVariants as section
 use Rattle.script_read.specs.declared.reading.Reading.{Reading}
 use Rattle.script_read.specs.declared.script.Block.{Block}
 use Rattle.script_read.specs.declared.script.Command.{Command}
@@ -20,7 +20,9 @@ use Rattle.script_read.specs.declared.script.SourceText.{SourceText}
 use Rattle.script_read.specs.Faults.{◌>>=◌}
 use Rattle.script_read.specs.Lines.{cleaned, is_passed, line_step}
 use Rattle.script_read.specs.Grammar.{first_why}
-use Rattle.script_read.specs.Script.{opening}
+use Rattle.script_read.specs.Phases.{IsActor, MayRun, actor_number}
+use Rattle.script_read.specs.Script.{opening, phases_so_far}
+use Rattle.script_read.specs.Sections.{actor_name}
 use Rattle.script_read.specs.Words.{is_name, is_file_name}
 
 -- the line that a form spells
@@ -56,31 +58,39 @@ pub record IsCommand (command : Command) : Type 0 where
   pub spells : command.line ≡ spelled command.form
   pub names : HasNames command.form
 
--- the block of the one actor
-pub record IsBlock (block : Block) : Type 0 where
-  pub actor : block.actor ≡ 1
-  pub few : length block.commands ≤ 65536
-  pub commands : All IsCommand block.commands
+-- the commands of a block are commands
+abbrev pub IsBlock : Block → Type 0
+IsBlock block = All IsCommand block.commands
 
--- the phases of a script with these actors: no block where no actor stands, and one block where one stands
-abbrev pub HasPhases : List (List ℕ) → List (List Block) → Type 0
-HasPhases [] [] = ⊤
-HasPhases [] ([] ∷ []) = ⊤
-HasPhases (actor ∷ []) ((block ∷ []) ∷ []) = IsName actor × IsBlock block
-HasPhases actors phases = ⊥
+-- the numbers of the actors of all blocks, in order
+abbrev pub mentions : List (List Block) → List ℕ
+mentions phases = flat_map (map actor_number) phases
+
+-- behind so many actors that are known, each number is that of a known one, or the next, which is known from there on; so many are
+-- known at the end
+abbrev pub AreNumbered : ℕ → List ℕ → ℕ → Type 0
+AreNumbered known [] all = known ≡ all
+AreNumbered known (number ∷ numbers) all =
+    (IsActor known number × AreNumbered known numbers all) ⊎ ((number ≡ known + 1) × AreNumbered (known + 1) numbers all)
 
 -- the file name of a configuration is a file name, and there is no file of changes
 abbrev pub HasFiles : SourceForm → Type 0
 HasFiles (Inline vertices edges) = ⊤
 HasFiles (Files config changes) = IsFileName config × (changes ≡ None)
 
--- a script with at most 64 sources of different names, one phase and one actor
+-- a script with at most 64 sources of different names, and at most 128 actors of different names, which are numbered from 1 in the
+-- order in which the blocks mention them
 pub record IsScript (script : Script) : Type 0 where
   pub few : length script.sources ≤ 64
   pub names : All (λ source. IsName source.name) script.sources
   pub files : All (λ source. HasFiles source.form) script.sources
   pub distinct : AllPairs (λ s t. s.name ≢ t.name) script.sources
-  pub phases : HasPhases script.actors script.phases
+  pub few_actors : length script.actors ≤ 128
+  pub actor_names : All IsName script.actors
+  pub distinct_actors : AllPairs (λ a b. a ≢ b) script.actors
+  pub numbered : AreNumbered 0 (mentions script.phases) (length script.actors)
+  pub runs : MayRun script
+  pub commands : AllByRecursion (λ (blocks : List Block). AllByRecursion IsBlock blocks) script.phases
 
 -- the line of a key, of an edge's three keys, and of an actor
 abbrev pub vertex_text : ℤ → List ℕ
@@ -116,7 +126,7 @@ source_lines source = form_lines source.name source.form
 
 -- the lines of a block, whose actor is known by its number from 1
 abbrev pub block_lines : List (List ℕ) → Block → List (List ℕ)
-block_lines actors block = actor_text (unwrap_or (slice_get actors (block.actor - 1)) []) ∷ map (λ command. command.line) block.commands
+block_lines actors block = actor_text (actor_name actors block.actor) ∷ map (λ command. command.line) block.commands
 
 -- the lines of a phase
 abbrev pub phase_lines : List (List ℕ) → List Block → List (List ℕ)
@@ -136,29 +146,37 @@ abbrev pub after : Reading → List (List ℕ) → Result Reading LineWhy
 after s [] = Ok s
 after s (line ∷ lines) = line_step s (cleaned line) >>= (λ t. after t lines)
 
--- the lines that what has been read spells, by the place
-abbrev pub lines_at : Place → Reading → List (List ℕ)
-lines_at place.Start s = flat_map source_lines s.sources
-lines_at place.Vertices s = flat_map source_lines s.sources ++ record_lines s.source.name s.source.vertices s.source.edges
-lines_at place.Edges s = flat_map source_lines s.sources ++ record_lines s.source.name s.source.vertices s.source.edges
-lines_at place.Phase s = flat_map source_lines s.sources ++ codes "phase" ∷ []
-lines_at place.Actor s = flat_map source_lines s.sources ++ codes "phase" ∷ (map actor_text s.actors ++ map (λ command. command.line) s.commands)
+-- the lines of the phases that have been read
+abbrev pub phase_lines_at : Section → Reading → List (List ℕ)
+phase_lines_at p s = flat_map (phase_lines s.actors) (phases_so_far p s)
 
--- whether an `e` line stands in the open source, as the place says
-abbrev pub HasEdges : Place → List (ℤ × ℤ × ℤ) → Type 0
-HasEdges place.Vertices edges = edges ≡ []
-HasEdges place.Edges edges = edges ≢ []
-HasEdges p edges = ⊤
+-- the lines that what has been read spells, by the section
+abbrev pub lines_at : Section → Reading → List (List ℕ)
+lines_at section.Start s = flat_map source_lines s.sources
+lines_at section.Vertices s = flat_map source_lines s.sources ++ record_lines s.source.name s.source.vertices s.source.edges
+lines_at section.Edges s = flat_map source_lines s.sources ++ record_lines s.source.name s.source.vertices s.source.edges
+lines_at section.Phase s = flat_map source_lines s.sources ++ phase_lines_at section.Phase s
+lines_at section.Actor s = flat_map source_lines s.sources ++ phase_lines_at section.Actor s
+
+-- whether an `e` line stands in the open source, as the section says
+abbrev pub HasEdges : Section → List (ℤ × ℤ × ℤ) → Type 0
+HasEdges section.Start edges = ⊤
+HasEdges section.Vertices edges = edges ≡ []
+HasEdges section.Edges edges = edges ≢ []
+HasEdges section.Phase edges = ⊤
+HasEdges section.Actor edges = ⊤
 
 -- the script ends inside an inline source
-abbrev pub EndsInside : Place → Type 0
-EndsInside place.Vertices = ⊤
-EndsInside place.Edges = ⊤
-EndsInside p = ⊥
+abbrev pub EndsInside : Section → Type 0
+EndsInside section.Start = ⊥
+EndsInside section.Vertices = ⊤
+EndsInside section.Edges = ⊤
+EndsInside section.Phase = ⊥
+EndsInside section.Actor = ⊥
 
 -- this is the first why of the next line, or of the end where there is no next line
 abbrev pub FaultNext : Reading → List (List ℕ) → LineWhy → Type 0
-FaultNext s [] why = (why ≡ End) × EndsInside s.place
+FaultNext s [] why = (why ≡ End) × EndsInside s.section
 FaultNext s (line ∷ lines) why = first_why s (cleaned line) ≡ Some why
 
 -- the line of this number, from 1, has this why behind the lines before it, which have no fault and spell what is left of them
@@ -166,8 +184,8 @@ pub record FirstFault (lines : List (List ℕ)) (number : ℕ) (why : LineWhy) :
   pub counted : 1 ≤ number
   pub left : Reading
   pub before : after opening (take (number - 1) lines) ≡ Ok left
-  pub spells : lines_at left.place left ≡ kept_lines (take (number - 1) lines)
-  pub edges : HasEdges left.place left.source.edges
+  pub spells : lines_at left.section left ≡ kept_lines (take (number - 1) lines)
+  pub edges : HasEdges left.section left.source.edges
   pub next : FaultNext left (drop (number - 1) lines) why
 
 -- a line that is named is the first with a fault

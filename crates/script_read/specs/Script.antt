@@ -1,30 +1,47 @@
 -- The script that bytes stand for, or its first line with a fault.
-use Rattle.std.specs.Prelude.{◌≡◌, ℕ, ◌+◌, List, [], ◌∷◌, Result, Ok, Err, ⊤}
+use Rattle.std.specs.Prelude.{◌≡◌, ℕ, ◌+◌, ◌++◌, List, [], ◌∷◌, Result, Ok, Err, ⊤}
 use Rattle.script_read.specs.declared.fault.LineFault.{LineFault}
 use Rattle.script_read.specs.declared.fault.LineFault.TheVariants as fault
 use Rattle.script_read.specs.declared.fault.LineWhy.{LineWhy}
 use Rattle.script_read.specs.declared.fault.LineWhy.TheVariants as why
 use Rattle.script_read.specs.declared.fault.ScriptFault.{ScriptFault}
 use Rattle.script_read.specs.declared.fault.ScriptFault.TheVariants.{BadLine, NoMemory}
-use Rattle.script_read.specs.declared.reading.Place.{Place}
-use Rattle.script_read.specs.declared.reading.Place.TheVariants as place
+use Rattle.script_read.specs.declared.reading.Section.{Section}
+use Rattle.script_read.specs.declared.reading.Section.TheVariants as section
 use Rattle.script_read.specs.declared.reading.Reading.{Reading}
 use Rattle.script_read.specs.declared.script.Block.{Block}
-use Rattle.script_read.specs.declared.script.Command.{Command}
 use Rattle.script_read.specs.declared.script.Script.{Script}
 use Rattle.script_read.specs.Lines.{lines_of, cleaned, line_step}
+use Rattle.script_read.specs.Sections.{no_block}
 
 -- what is read before the first line
 abbrev pub opening : Reading
-opening = record { place = place.Start; sources = []; source = record { name = []; vertices = []; edges = [] }; actors = []; commands = [] }
+opening = record {
+  section = section.Start;
+  sources = [];
+  source = record { name = []; vertices = []; edges = [] };
+  actors = [];
+  phases = [];
+  blocks = [];
+  block = no_block;
+  command_count = 0;
+}
 
--- what is read by a place at the end: the phases with their blocks; the end inside a source is a fault
-abbrev pub phases_at : Place → List Command → Result (List (List Block)) LineWhy
-phases_at place.Start commands = Ok []
-phases_at place.Vertices commands = Err why.End
-phases_at place.Edges commands = Err why.End
-phases_at place.Phase commands = Ok ([] ∷ [])
-phases_at place.Actor commands = Ok ((record { actor = 1; commands = commands } ∷ []) ∷ [])
+-- the phases that have been read, the open one among them
+abbrev pub phases_so_far : Section → Reading → List (List Block)
+phases_so_far section.Start s = s.phases
+phases_so_far section.Vertices s = s.phases
+phases_so_far section.Edges s = s.phases
+phases_so_far section.Phase s = s.phases ++ s.blocks ∷ []
+phases_so_far section.Actor s = s.phases ++ (s.blocks ++ s.block ∷ []) ∷ []
+
+-- the phases at the end; the end inside a source is a fault
+abbrev pub phases_at : Section → Reading → Result (List (List Block)) LineWhy
+phases_at section.Start s = Ok (phases_so_far section.Start s)
+phases_at section.Vertices s = Err why.End
+phases_at section.Edges s = Err why.End
+phases_at section.Phase s = Ok (phases_so_far section.Phase s)
+phases_at section.Actor s = Ok (phases_so_far section.Actor s)
 
 -- what comes of a step at a line, which has this number
 abbrev pub at_line : {A B : Type 0} → ℕ → Result A LineWhy → (A → Result B (ℕ × LineWhy)) → Result B (ℕ × LineWhy)
@@ -33,7 +50,7 @@ at_line number (Err why) f = Err (number, why)
 
 -- the script that has been read at its end, where this would be the next line
 unfoldable pub ended : ℕ → Reading → Result Script (ℕ × LineWhy)
-ended number s = at_line number (phases_at s.place s.commands) (λ phases. Ok (record { sources = s.sources; actors = s.actors; phases = phases }))
+ended number s = at_line number (phases_at s.section s) (λ phases. Ok (record { sources = s.sources; actors = s.actors; phases = phases }))
 
 -- the script that these lines complete, the first of which has this number
 unfoldable pub lines_read : ℕ → Reading → List (List ℕ) → Result Script (ℕ × LineWhy)

@@ -19,9 +19,9 @@ pub enum LineWhy {
     Name,
     /// A word is not the number that is due in its place.
     Number,
-    /// A source's name stands again.
+    /// A source's name stands again, or an actor stands a second time in one phase.
     Twice,
-    /// The 65th source, or the 65,537th command.
+    /// The 65th source, the 129th name of an actor, or the 65,537th command.
     Many,
     /// The script ends inside an inline source.
     End,

@@ -2,22 +2,20 @@
 ghost use Rattle.std.specs.Prelude.{◌≡◌};
 ghost use Rattle.script_read.specs.Later.{comes_later};
 
-use crate::reading::Place;
+use crate::reading::Section;
 use crate::words::has_word;
 
 /// The commands that are not built yet.
 const LATER_COMMANDS: &str =
     "lines transpose undirect simplify sortdeg build snapshot publish unpublish get checkout refresh tick feed change discard hops components cores weights drop query";
 
-/// Whether a line that begins with this word is allowed in a place and not built yet.
+/// Whether a line that begins with this word is allowed in a section and not built yet.
 #[tactic(auto, unfolding(crate::specs::Later::comes_later, crate::specs::Later::later_commands))]
-pub fn comes_later(place: Place, word: &str) -> bool
-    ensures { result ≡ comes_later place word.now }
+pub fn comes_later(section: Section, word: &str) -> bool
+    ensures { result ≡ comes_later section word.now }
 {
-    match place {
-        Place::Start | Place::Vertices | Place::Edges => false,
-        // A script has one phase, and a phase one actor.
-        Place::Phase => word == "phase",
-        Place::Actor => word == "phase" || word == "actor" || has_word(LATER_COMMANDS, word),
+    match section {
+        Section::Start | Section::Vertices | Section::Edges | Section::Phase => false,
+        Section::Actor => has_word(LATER_COMMANDS, word),
     }
 }

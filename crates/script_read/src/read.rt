@@ -7,8 +7,8 @@ ghost use Rattle.script_read.specs.Script.{opening, ended, fault_at, script_of, 
 
 use crate::fault::{LineFault, LineWhy};
 use crate::lines::{cleaned, first_line, is_passed};
-use crate::reading::{OpenSource, Place, Reading, read_in_place};
-use crate::{Block, Script, ScriptFault};
+use crate::reading::{OpenSource, Reading, Section, end_phase, no_block, read_in_section};
+use crate::{Script, ScriptFault};
 use column_types::{List, Text};
 use std::alloc::Global;
 
@@ -62,7 +62,7 @@ fn opening(alloc: Global) -> Reading
     ensures { result ≡ opening }
 {
     Reading {
-        place: Place::Start,
+        section: Section::Start,
         sources: List::new(alloc),
         source: OpenSource {
             name: Text::new(alloc),
@@ -70,7 +70,10 @@ fn opening(alloc: Global) -> Reading
             edges: List::new(alloc),
         },
         actors: List::new(alloc),
-        commands: List::new(alloc),
+        phases: List::new(alloc),
+        blocks: List::new(alloc),
+        block: no_block(alloc),
+        command_count: 0,
     }
 }
 
@@ -83,7 +86,7 @@ fn read_line(alloc: Global, reading: &mut Reading, line: &[u8]) -> Result<(), Li
         return Ok(());
     }
     match str::from_utf8(line) {
-        Ok(text) => read_in_place(alloc, reading, text),
+        Ok(text) => read_in_section(alloc, reading, text),
         Err(_) => Err(LineFault::Bad(LineWhy::Utf8)),
     }
 }
@@ -93,30 +96,18 @@ fn read_line(alloc: Global, reading: &mut Reading, line: &[u8]) -> Result<(), Li
 fn finish(alloc: Global, reading: Reading, number: u64) -> Result<Script, ScriptFault>
     ensures { ReadsScript result (ended number reading) }
 {
-    let Reading {
-        place,
-        sources,
-        source: _,
-        actors,
-        commands,
-    } = reading;
-    let mut phases = List::new(alloc);
-    match place {
-        Place::Start => {}
-        Place::Vertices | Place::Edges => {
+    let mut reading = reading;
+    match reading.section {
+        Section::Start => {}
+        Section::Vertices | Section::Edges => {
             let why = LineWhy::End;
             return Err(ScriptFault::BadLine { line: number, why });
         }
-        Place::Phase => phases.push(List::new(alloc))?,
-        Place::Actor => {
-            let mut blocks = List::new(alloc);
-            blocks.push(Block { actor: 1, commands })?;
-            phases.push(blocks)?;
-        }
+        Section::Phase | Section::Actor => end_phase(alloc, &mut reading)?,
     }
     Ok(Script {
-        sources,
-        actors,
-        phases,
+        sources: reading.sources,
+        actors: reading.actors,
+        phases: reading.phases,
     })
 }

@@ -1,7 +1,9 @@
 //! What has been read of a script, and what each kind of line does to it.
-ghost use Rattle.std.specs.Prelude.{◌≡◌};
+ghost use Rattle.std.specs.Prelude.{◌≡◌, ◌<◌, length, IfSome, OnOk};
+ghost use Rattle.std.specs.List.{position};
 ghost use Rattle.script_read.specs.Faults.{GivesSurely, Writes, WritesSurely};
-ghost use Rattle.script_read.specs.Places.{has_source, new_source, inline_line, files_line, source_line, vertex_line, edge_line, end_line, phase_line, actor_line, command_line, line_in};
+ghost use Rattle.script_read.specs.Sections.{has_source, new_source, inline_line, files_line, source_line, vertex_line, edge_line, end_line, no_block, blocks_at, phase_ended, first_phase_line, phase_line, number_of, has_block, new_block, with_actor, actor_line, command_line, line_in};
+ghost use Rattle.script_read.specs.Words.{same};
 
 use crate::command::read_command;
 use crate::fault::{LineFault, LineWhy};
@@ -9,19 +11,22 @@ use crate::later::comes_later;
 use crate::words::{
     count_words, nth_word, read_alone, read_file_name, read_key, read_name, read_one_name,
 };
-use crate::{Command, SourceForm, SourceText};
-use column_types::{List, Text};
+use crate::{Block, SourceForm, SourceText};
+use column_types::{List, NoMemory, Text};
 use std::alloc::Global;
 
 /// How many sources a script may have.
 const MOST_SOURCES: usize = 64;
 
-/// How many commands a script may have.
-const MOST_COMMANDS: usize = 65_536;
+/// How many actors a script may have.
+const MOST_ACTORS: usize = 128;
 
-/// Where the next line stands.
+/// How many commands a script may have.
+const MOST_COMMANDS: u32 = 65_536;
+
+/// The section of the script in which the next line stands.
 #[derive(Clone, Copy)]
-pub enum Place {
+pub enum Section {
     /// At the start, or after a source.
     Start,
     /// In an inline source, before its first `e` line.
@@ -45,30 +50,38 @@ pub struct OpenSource {
 /// What has been read of a script.
 #[derive(Drop)]
 pub struct Reading {
-    pub place: Place,
+    pub section: Section,
     pub sources: List<SourceText>,
     pub source: OpenSource,
     pub actors: List<Text>,
-    pub commands: List<Command>,
+    /// The finished phases.
+    pub phases: List<List<Block>>,
+    /// The finished blocks of the open phase.
+    pub blocks: List<Block>,
+    /// The open block, behind an `actor` line.
+    pub block: Block,
+    /// The number of commands in all blocks.
+    pub command_count: u32,
 }
 
-/// Reads a line by the place where it stands. After an error nothing is said of what has been read.
-#[tactic(auto, using(crate::proofs::Surely::writes_surely), unfolding(crate::specs::Places::line_in, crate::specs::Places::built_line))]
-pub fn read_in_place(alloc: Global, reading: &mut Reading, line: &str) -> Result<(), LineFault>
-    ensures { Writes result reading.new (line_in reading.old.place reading.old line.now) }
+/// Reads a line by the section in which it stands. After an error nothing is said of what has been read.
+#[tactic(auto, using(crate::proofs::Surely::writes_surely), unfolding(crate::specs::Sections::line_in, crate::specs::Sections::built_line))]
+pub fn read_in_section(alloc: Global, reading: &mut Reading, line: &str) -> Result<(), LineFault>
+    ensures { Writes result reading.new (line_in reading.old.section reading.old line.now) }
 {
     let word = nth_word(line, 0);
-    if comes_later(reading.place, word) {
+    if comes_later(reading.section, word) {
         return Err(LineFault::Bad(LineWhy::Later));
     }
-    match reading.place {
-        Place::Start if word == "source" => read_source(alloc, reading, line),
-        Place::Start if word == "phase" => read_phase(reading, line),
-        Place::Vertices if word == "v" => read_vertex(reading, line),
-        Place::Vertices | Place::Edges if word == "e" => read_edge(reading, line),
-        Place::Vertices | Place::Edges if word == "end" => read_end(alloc, reading, line),
-        Place::Phase if word == "actor" => read_actor(alloc, reading, line),
-        Place::Actor => read_command_line(alloc, reading, line),
+    match reading.section {
+        Section::Start if word == "source" => read_source(alloc, reading, line),
+        Section::Start if word == "phase" => read_first_phase(reading, line),
+        Section::Vertices if word == "v" => read_vertex(reading, line),
+        Section::Vertices | Section::Edges if word == "e" => read_edge(reading, line),
+        Section::Vertices | Section::Edges if word == "end" => read_end(alloc, reading, line),
+        Section::Phase | Section::Actor if word == "phase" => read_phase(alloc, reading, line),
+        Section::Phase | Section::Actor if word == "actor" => read_actor(alloc, reading, line),
+        Section::Actor => read_command_line(alloc, reading, line),
         _ => Err(LineFault::Bad(LineWhy::Word)),
     }
 }
@@ -80,7 +93,7 @@ fn has_source(sources: &[SourceText], text: &str) -> bool
 }
 
 /// Nothing, where one more source may stand under a name.
-#[tactic(auto, unfolding(crate::specs::Places::new_source))]
+#[tactic(auto, unfolding(crate::specs::Sections::new_source))]
 fn check_new_source(sources: &[SourceText], name: &str) -> Result<(), LineFault>
     ensures { GivesSurely result (new_source sources.now name.now) }
 {
@@ -93,7 +106,7 @@ fn check_new_source(sources: &[SourceText], name: &str) -> Result<(), LineFault>
     Ok(())
 }
 
-#[tactic(auto, unfolding(crate::specs::Places::source_line))]
+#[tactic(auto, unfolding(crate::specs::Sections::source_line))]
 fn read_source(alloc: Global, reading: &mut Reading, line: &str) -> Result<(), LineFault>
     ensures { Writes result reading.new (source_line reading.old line.now) }
 {
@@ -104,7 +117,7 @@ fn read_source(alloc: Global, reading: &mut Reading, line: &str) -> Result<(), L
     }
 }
 
-#[tactic(auto, unfolding(crate::specs::Places::files_line))]
+#[tactic(auto, unfolding(crate::specs::Sections::files_line))]
 fn read_files(alloc: Global, reading: &mut Reading, line: &str) -> Result<(), LineFault>
     ensures { Writes result reading.new (files_line reading.old line.now) }
 {
@@ -120,7 +133,7 @@ fn read_files(alloc: Global, reading: &mut Reading, line: &str) -> Result<(), Li
     Ok(())
 }
 
-#[tactic(auto, unfolding(crate::specs::Places::inline_line))]
+#[tactic(auto, unfolding(crate::specs::Sections::inline_line))]
 fn read_inline(alloc: Global, reading: &mut Reading, line: &str) -> Result<(), LineFault>
     ensures { Writes result reading.new (inline_line reading.old line.now) }
 {
@@ -134,11 +147,11 @@ fn read_inline(alloc: Global, reading: &mut Reading, line: &str) -> Result<(), L
         vertices: List::new(alloc),
         edges: List::new(alloc),
     };
-    reading.place = Place::Vertices;
+    reading.section = Section::Vertices;
     Ok(())
 }
 
-#[tactic(auto, unfolding(crate::specs::Places::vertex_line))]
+#[tactic(auto, unfolding(crate::specs::Sections::vertex_line))]
 fn read_vertex(reading: &mut Reading, line: &str) -> Result<(), LineFault>
     ensures { Writes result reading.new (vertex_line reading.old line.now) }
 {
@@ -150,7 +163,7 @@ fn read_vertex(reading: &mut Reading, line: &str) -> Result<(), LineFault>
     Ok(())
 }
 
-#[tactic(auto, unfolding(crate::specs::Places::edge_line))]
+#[tactic(auto, unfolding(crate::specs::Sections::edge_line))]
 fn read_edge(reading: &mut Reading, line: &str) -> Result<(), LineFault>
     ensures { Writes result reading.new (edge_line reading.old line.now) }
 {
@@ -161,11 +174,11 @@ fn read_edge(reading: &mut Reading, line: &str) -> Result<(), LineFault>
     let from = read_key(nth_word(line, 2))?;
     let to = read_key(nth_word(line, 3))?;
     reading.source.edges.push((key, from, to))?;
-    reading.place = Place::Edges;
+    reading.section = Section::Edges;
     Ok(())
 }
 
-#[tactic(auto, unfolding(crate::specs::Places::end_line))]
+#[tactic(auto, unfolding(crate::specs::Sections::end_line))]
 fn read_end(alloc: Global, reading: &mut Reading, line: &str) -> Result<(), LineFault>
     ensures { Writes result reading.new (end_line reading.old line.now) }
 {
@@ -182,37 +195,133 @@ fn read_end(alloc: Global, reading: &mut Reading, line: &str) -> Result<(), Line
     } = std::mem::replace(&mut reading.source, none);
     let form = SourceForm::Inline { vertices, edges };
     reading.sources.push(SourceText { name, form })?;
-    reading.place = Place::Start;
+    reading.section = Section::Start;
     Ok(())
 }
 
-#[tactic(auto, unfolding(crate::specs::Places::phase_line))]
-fn read_phase(reading: &mut Reading, line: &str) -> Result<(), LineFault>
-    ensures { WritesSurely result reading.new (phase_line reading.old line.now) }
+#[tactic(auto, unfolding(crate::specs::Sections::first_phase_line))]
+fn read_first_phase(reading: &mut Reading, line: &str) -> Result<(), LineFault>
+    ensures { WritesSurely result reading.new (first_phase_line reading.old line.now) }
 {
     read_alone(line)?;
-    reading.place = Place::Phase;
+    reading.section = Section::Phase;
     Ok(())
 }
 
-#[tactic(auto, unfolding(crate::specs::Places::actor_line))]
+#[tactic(auto, unfolding(crate::specs::Sections::phase_line))]
+fn read_phase(alloc: Global, reading: &mut Reading, line: &str) -> Result<(), LineFault>
+    ensures { Writes result reading.new (phase_line reading.old line.now) }
+{
+    read_alone(line)?;
+    end_phase(alloc, reading)?;
+    reading.section = Section::Phase;
+    Ok(())
+}
+
+/// No block.
+pub fn no_block(alloc: Global) -> Block
+    ensures { result ≡ no_block }
+{
+    Block {
+        actor: 0,
+        commands: List::new(alloc),
+    }
+}
+
+/// Ends the open block, where one is open, and puts another in its place.
+fn end_block(reading: &mut Reading, next: Block) -> Result<(), NoMemory>
+    ensures { OnOk result (reading.new ≡ record reading.old { blocks = blocks_at reading.old.section reading.old; block = next }) }
+{
+    let block = std::mem::replace(&mut reading.block, next);
+    match reading.section {
+        Section::Start | Section::Vertices | Section::Edges | Section::Phase => Ok(()),
+        Section::Actor => reading.blocks.push(block),
+    }
+}
+
+/// Ends the open phase.
+pub fn end_phase(alloc: Global, reading: &mut Reading) -> Result<(), NoMemory>
+    ensures { OnOk result (reading.new ≡ phase_ended reading.old) }
+{
+    end_block(reading, no_block(alloc))?;
+    let blocks = std::mem::replace(&mut reading.blocks, List::new(alloc));
+    reading.phases.push(blocks)?;
+    Ok(())
+}
+
+fn actor_place(actors: &[Text], name: &str) -> Option<usize>
+    ensures first { result ≡ position (λ actor. same actor name.now) actors.now }
+    ensures within { IfSome result (λ place. place < length actors.now) }
+{
+    actors.iter().position(|actor| actor.as_str() == name)
+}
+
+/// The number of an actor: its place among those that are known, from 1, and the next number where it is not known.
+fn number_of(actors: &[Text], name: &str) -> usize
+    ensures { result ≡ number_of actors.now name.now }
+{
+    match actor_place(actors, name) {
+        Some(place) => place + 1,
+        None => actors.len() + 1,
+    }
+}
+
+fn has_block(blocks: &[Block], number: usize) -> bool
+    ensures { result ≡ has_block blocks.now number }
+{
+    blocks.iter().any(|block| block.actor as usize == number)
+}
+
+/// The number, where an actor of this number may stand behind these blocks of its phase.
+#[tactic(auto, unfolding(crate::specs::Sections::new_block))]
+fn check_new_block(blocks: &[Block], number: usize) -> Result<u32, LineFault>
+    ensures { GivesSurely result (new_block blocks.now number) }
+{
+    if has_block(blocks, number) {
+        return Err(LineFault::Bad(LineWhy::Twice));
+    }
+    if number > MOST_ACTORS {
+        return Err(LineFault::Bad(LineWhy::Many));
+    }
+    Ok(number as u32)
+}
+
+/// Adds an actor of this number, where it is not known.
+fn add_actor(actors: &mut List<Text>, name: Text, number: u32) -> Result<(), NoMemory>
+    ensures { OnOk result (actors.new ≡ with_actor actors.old name number) }
+{
+    if number as usize > actors.len() {
+        actors.push(name)?;
+    }
+    Ok(())
+}
+
+#[tactic(auto, unfolding(crate::specs::Sections::actor_line))]
 fn read_actor(alloc: Global, reading: &mut Reading, line: &str) -> Result<(), LineFault>
     ensures { Writes result reading.new (actor_line reading.old line.now) }
 {
     let actor = read_one_name(alloc, line)?;
-    reading.actors.push(actor)?;
-    reading.place = Place::Actor;
+    let number = number_of(reading.actors.as_slice(), actor.as_str());
+    end_block(reading, no_block(alloc))?;
+    let number = check_new_block(reading.blocks.as_slice(), number)?;
+    add_actor(&mut reading.actors, actor, number)?;
+    reading.block = Block {
+        actor: number,
+        commands: List::new(alloc),
+    };
+    reading.section = Section::Actor;
     Ok(())
 }
 
-#[tactic(auto, unfolding(crate::specs::Places::command_line))]
+#[tactic(auto, unfolding(crate::specs::Sections::command_line))]
 fn read_command_line(alloc: Global, reading: &mut Reading, line: &str) -> Result<(), LineFault>
     ensures { Writes result reading.new (command_line reading.old line.now) }
 {
     let command = read_command(alloc, line)?;
-    if reading.commands.len() >= MOST_COMMANDS {
+    if reading.command_count >= MOST_COMMANDS {
         return Err(LineFault::Bad(LineWhy::Many));
     }
-    reading.commands.push(command)?;
+    reading.block.commands.push(command)?;
+    reading.command_count += 1;
     Ok(())
 }
