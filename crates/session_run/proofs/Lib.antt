@@ -2,3 +2,4 @@ pub mod Nexts
 pub mod Stepped
 pub mod Growth
 pub mod Runs
+pub mod AloneCalls

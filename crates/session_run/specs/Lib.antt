@@ -1,3 +1,4 @@
+pub mod Record
 pub mod Own
 pub mod Next
 pub mod Language

@@ -1,31 +1,25 @@
--- One actor's turns on a catalogue that one thread has to itself: what each of them leaves.
-use Rattle.std.specs.Prelude.{◌≡◌, ◌⊎◌, ℕ, ◌+◌, ◌-◌, map, List, [], ◌∷◌, ◌++◌, Option, Some, None, length, slice_get}
-use Rattle.turn_hall.specs.Replay.{entry}
+-- One actor's turns: what each of them leaves. Other actors may call in between.
+use Rattle.std.specs.Prelude.{◌≡◌, ◌⊎◌, ℕ, ◌+◌, ◌-◌, map, List, [], ◌∷◌, ◌++◌, Option, Some, None, Result, Ok, Err, length, slice_get}
+use Rattle.column_types.specs.declared.fault.NoMemory.{NoMemory}
+use Rattle.turn_hall.specs.declared.entry.Entry.{Entry}
+use Rattle.turn_hall.specs.Replay.{entry, entries_of}
 use Rattle.actor_records.specs.declared.record.Did.TheVariants.{Local, Starved}
 use Rattle.actor_records.specs.Records.{core_record}
 use Rattle.actor_records.specs.Agreement.{Stand, AgreesWith}
-use Rattle.catalogue.specs.Step.{step}
 use Rattle.catalogue.specs.Bound.{data_of}
 use Rattle.catalogue.specs.declared.ask.Ask.{Ask}
 use Rattle.catalogue.specs.declared.reply.Reply.{Reply}
 use Rattle.catalogue.specs.declared.parts.SourceData.{SourceData}
 use Rattle.catalogue_hall.specs.declared.held.Named.{Named}
-use Rattle.catalogue_hall.specs.History.{History, now, held_by}
+use Rattle.catalogue_hall.specs.History.{History, held_by}
 use Rattle.call_text.specs.Asks.{ask_text}
 use Rattle.script_read.specs.declared.script.Command.{Command}
 use Rattle.session_run.specs.declared.place.Place.{Place}
-use Rattle.actor_records.specs.declared.record.Did.{Did}
-use Rattle.actor_records.specs.declared.record.Record.{Record}
+use Rattle.session_run.specs.declared.actor.Actor.{Actor}
+use Rattle.session_run.specs.Record.{ActorDid, ActorRecord}
 use Rattle.session_run.specs.declared.record.LocalReply.{LocalReply}
 use Rattle.session_run.specs.Own.{OwnPart, own_told, own_local}
 use Rattle.session_run.specs.Language.{ActorMind, rules}
-
--- what an actor did, and its record
-abbrev pub ActorDid : Type 0
-ActorDid = Did Ask Reply Command LocalReply (List ℕ)
-
-abbrev pub ActorRecord : Type 0
-ActorRecord = Record Ask Reply Command LocalReply (List ℕ)
 
 -- ---- where the next record stands
 
@@ -55,26 +49,33 @@ pub record Work : Type 0 where
 abbrev pub work : History → List Named → OwnPart → Place → List ActorRecord → Work
 work history held own place records = record { history = history; held = held; own = own; place = place; records = records }
 
--- the history with one more call
-abbrev pub longer : History → ℕ → Ask → Reply → History
-longer history who ask reply = record history { book = history.book ++ entry who ask reply ∷ [] }
+-- the history with calls of others, and then one more call
+abbrev pub longer : History → List (Entry Ask Reply) → ℕ → Ask → Reply → History
+longer history between who ask reply = record history { book = (history.book ++ between) ++ entry who ask reply ∷ [] }
 
 -- between two commands the place is that behind the last record
 abbrev pub worked : History → List Named → OwnPart → List ActorRecord → Work
 worked history held own records = work history held own (place_after records) records
 
+-- an actor at work on a catalogue with this history: its next record stands at this place, or behind its last record
+abbrev pub at_place : History → Place → Actor → Work
+at_place history place actor = work history actor.held actor.own place actor.records
+
+abbrev pub at_work : History → Actor → Work
+at_work history actor = worked history actor.held actor.own actor.records
+
 -- the sources of the run
 abbrev pub sources_of : Work → List SourceData
 sources_of w = map data_of w.history.start.sources
 
--- after a core call with this reply
-abbrev pub answered : Work → ℕ → Ask → Reply → Work
-answered w who ask reply = record {
-  history = longer w.history who ask reply;
-  held = held_by (longer w.history who ask reply) who;
+-- after a core call with this reply, which came behind these calls of others
+abbrev pub answered : Work → List (Entry Ask Reply) → ℕ → Ask → Reply → Work
+answered w between who ask reply = record {
+  history = longer w.history between who ask reply;
+  held = held_by (longer w.history between who ask reply) who;
   own = own_told w.own ask reply;
-  place = record { after = length w.history.book + 1; index = 0 };
-  records = w.records ++ core_record (length w.history.book + 1) (entry who ask reply) ∷ [];
+  place = record { after = length (w.history.book ++ between) + 1; index = 0 };
+  records = w.records ++ core_record (length (w.history.book ++ between) + 1) (entry who ask reply) ∷ [];
 }
 
 -- a record that is no core record, at the place of the next
@@ -99,10 +100,19 @@ done_locally w who command reply own = record w {
   records = w.records ++ record_at w.place who (Local command reply) ∷ [];
 }
 
--- a core call ended: with a reply, or because memory ran out
+-- what became of a local command: its reply, or that it found no memory
+abbrev pub did_locally : Command → Result LocalReply NoMemory → ActorDid
+did_locally command (Ok reply) = Local command reply
+did_locally command (Err e) = Starved command.line
+
+-- a core call ended: with a reply, behind calls of others alone, or because memory ran out
 abbrev pub CallEnds : Work → ℕ → Ask → Option Reply → Work → Type 0
-CallEnds w who ask (Some reply) v = (reply ≡ (step (now w.history) who ask).0) × (v ≡ answered w who ask reply)
+CallEnds w who ask (Some reply) v = (between : List (Entry Ask Reply)) × (entries_of who between ≡ []) × (v ≡ answered w between who ask reply)
 CallEnds w who ask None v = v ≡ starved w who (ask_text ask)
+
+-- a core call stopped because memory ran out: before it was made, or behind it and its record
+abbrev pub CallStops : Work → ℕ → Ask → Work → Type 0
+CallStops w who ask v = (v ≡ w) ⊎ ((reply : Reply) × CallEnds w who ask (Some reply) v)
 
 -- a local command ended: with the reply that is due, or because memory ran out
 abbrev pub LocalEnds : Work → ℕ → Command → Work → Type 0

@@ -10,14 +10,16 @@
 //! held after the core record before it. From this the journal of all actors is made.
 #![tactic(auto)]
 
+mod actor;
+mod alone;
 mod copies;
 mod next;
 mod own;
 mod place;
 mod record;
-mod session;
 
+pub use actor::Actor;
+pub use alone::run_alone;
 pub use next::next_ask;
 pub use own::Own;
 pub use record::{Did, LocalReply, Record};
-pub use session::run_alone;
