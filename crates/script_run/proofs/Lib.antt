@@ -1,0 +1,4 @@
+pub mod Others
+pub mod Phases
+pub mod Blocks
+pub mod Running
