@@ -2,7 +2,7 @@
 use Rattle.std.proofs.Common.{◌≡◌, ◌∙◌, sym, ap, ℕ, ◌≤◌, List, ◌++◌, length, Option, Some, None, Ok, subst}
 use Rattle.std.proofs.lemmas.List.{append-nil}
 use Rattle.std.specs.Io.KnownBytes.{Consumes, IsAtEnd}
-use Rattle.pgx_io.specs.Whole.{ReadsWhole}
+use Rattle.pgx_io.specs.ReadWrite.{ReadsWhole}
 
 pub reads_whole : (old new : Option (List ℕ)) (bytes : List ℕ) → Consumes old new bytes → IsAtEnd new → length bytes ≤ 16777216 → ReadsWhole old (Ok bytes)
 reads_whole None new bytes read end short = tt

@@ -1,7 +1,7 @@
 -- What a library holds, and what a look-up answers.
 use Rattle.std.specs.Prelude.{◌≡◌, ◌≤◌, ℕ, List, [], ◌∷◌, Option, Some, None, Result, IfSome, IfOk, IsErrOf, ⊤, if◌then◌else◌}
 use Rattle.std.specs.Str.{bytes_eq}
-use Rattle.pgx_io.specs.Causes.{Rose}
+use Rattle.pgx_io.specs.Causes.{FaultCountRose}
 use Rattle.pgx_io.specs.declared.library.GetFault.{GetFault}
 use Rattle.pgx_io.specs.declared.library.GetFault.TheVariants.{Failed}
 
@@ -20,11 +20,11 @@ KeepsFiles None new = ⊤
 KeepsFiles (Some files) None = ⊥
 KeepsFiles (Some files) (Some others) = others ≡ files
 
--- where the map is told, the answer is what it has under the name
+-- where the files are known, the answer is what they have under the name
 abbrev pub Finds : {E : Type 0} → Option Files → List ℕ → Result (Option (List ℕ)) E → Type 0
-Finds told name result = IfSome told (λ files. IfOk result (λ found. found ≡ files name))
+Finds known_files name result = IfSome known_files (λ files. IfOk result (λ found. found ≡ files name))
 
 -- the count did not fall, and `Failed` came only where it rose; out of memory has no cause
 pub record GetsWithCause {T : Type 0} (before now : ℕ) (result : Result T GetFault) : Type 0 where
   pub later : before ≤ now
-  pub failed : IsErrOf result Failed → Rose before now
+  pub failed : IsErrOf result Failed → FaultCountRose before now

@@ -2,4 +2,5 @@ pub mod Causes
 pub mod Files
 pub mod Memory
 pub mod Names
-pub mod Whole
+pub mod ReadWrite
+pub mod Seen

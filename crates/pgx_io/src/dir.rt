@@ -1,6 +1,6 @@
 //! The files of the working folder, and no others. They tell nothing of what they hold.
 ghost use Rattle.std.specs.Prelude.{◌≡◌, ◌≤◌, None, Ok, Err, true, ltb, length, IfOk, IfSome};
-ghost use Rattle.pgx_io.specs.Causes.{Rose};
+ghost use Rattle.pgx_io.specs.Causes.{FaultCountRose};
 ghost use Rattle.pgx_io.specs.Files.{Finds, KeepsFiles, GetsWithCause};
 ghost use Rattle.pgx_io.specs.Names.{climbs, is_absolute, leads_out};
 
@@ -46,9 +46,7 @@ impl<F: Files> DirLibrary<F> {
 }
 
 impl<F: Files> Library for DirLibrary<F> {
-    ghost files = { λ _. None };
-
-    ghost faults = { λ l. l };
+    ghost seen = { λ l. record { files = None; faults = l } };
 
     fn get(&mut self, alloc: Global, name: &str) -> Result<Option<List<u8>>, GetFault>
         ensures found { Finds None name.now result }

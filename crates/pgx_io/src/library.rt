@@ -1,6 +1,6 @@
 //! A library of files by name.
-ghost use Rattle.std.specs.Prelude.{◌≡◌, ℕ};
-ghost use Rattle.pgx_io.specs.Files.{Files, Finds, KeepsFiles, GetsWithCause};
+ghost use Rattle.std.specs.Prelude.{◌≡◌};
+ghost use Rattle.pgx_io.specs.Files.{Finds, KeepsFiles, GetsWithCause};
 
 use column_types::{List, NoMemory};
 use std::alloc::Global;
@@ -28,18 +28,15 @@ impl From<NoMemory> for GetFault {
 
 /// Files by name.
 pub trait Library {
-    ghost use Rattle.std.specs.Prelude.{Option};
+    ghost use Rattle.pgx_io.specs.Seen.{LibrarySeen};
 
-    /// The map from names to the bytes of files, where the library tells it.
-    ghost files: { Self → Option Files };
-
-    /// How often the library has failed.
-    ghost faults: { Self → ℕ };
+    /// The map from names to the bytes of files, where the library tells it, and how often it has failed.
+    ghost seen: { Self → LibrarySeen };
 
     /// The bytes of a file, or none exactly where no file has the name. No call changes the map, and one that failed was
     /// counted.
     fn get(&mut self, alloc: Global, name: &str) -> Result<Option<List<u8>>, GetFault>
-        ensures found { Finds (files self.old) name.now result }
-        ensures same { KeepsFiles (files self.old) (files self.new) }
-        ensures cause { GetsWithCause (faults self.old) (faults self.new) result };
+        ensures found { Finds (seen self.old).files name.now result }
+        ensures same { KeepsFiles (seen self.old).files (seen self.new).files }
+        ensures cause { GetsWithCause (seen self.old).faults (seen self.new).faults result };
 }

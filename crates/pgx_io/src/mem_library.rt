@@ -32,9 +32,7 @@ impl SureLibrary {
 }
 
 impl Library for SureLibrary {
-    ghost files = { λ l. Some (file_of l) };
-
-    ghost faults = { λ _. 0 };
+    ghost seen = { λ l. record { files = Some (file_of l); faults = 0 } };
 
     fn get(&mut self, alloc: Global, name: &str) -> Result<Option<List<u8>>, GetFault>
         ensures found { Finds (Some (file_of self.old)) name.now result }
@@ -97,9 +95,7 @@ impl MemLibrary {
 impl Library for MemLibrary {
     ghost use Rattle.pgx_io.specs.declared.library.GetFault.TheVariants.{Failed};
 
-    ghost files = { λ l. Some (file_of l.files) };
-
-    ghost faults = { λ l. l.faults };
+    ghost seen = { λ l. record { files = Some (file_of l.files); faults = l.faults } };
 
     fn get(&mut self, alloc: Global, name: &str) -> Result<Option<List<u8>>, GetFault>
         ensures found { Finds (Some (file_of self.old.files)) name.now result }

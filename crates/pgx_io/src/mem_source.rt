@@ -43,9 +43,7 @@ impl SureSource {
 }
 
 impl Source for SureSource {
-    ghost rest = { λ s. Some s.rest };
-
-    ghost faults = { λ _. 0 };
+    ghost seen = { λ s. record { rest = Some s.rest; faults = 0 } };
 
     fn read(&mut self, buf: &mut [u8]) -> Result<usize, Failed>
         requires { 0 < length buf.old }
@@ -107,9 +105,7 @@ impl MemSource {
 }
 
 impl Source for MemSource {
-    ghost rest = { λ s. Some s.rest };
-
-    ghost faults = { λ s. s.faults };
+    ghost seen = { λ s. record { rest = Some s.rest; faults = s.faults } };
 
     fn read(&mut self, buf: &mut [u8]) -> Result<usize, Failed>
         requires { 0 < length buf.old }

@@ -1,9 +1,10 @@
 //! A source of bytes, and the loop that reads one to its end.
-ghost use Rattle.std.specs.Prelude.{◌≡◌, ◌<◌, ◌≤◌, ℕ, List, length, IfOk, OnOk, OnErr, IsErrOf};
+ghost use Rattle.std.specs.Prelude.{◌≡◌, ◌<◌, ◌≤◌, length, IfOk, OnOk, OnErr, IsErrOf};
 ghost use Rattle.std.specs.Io.{ReadsAtMost};
 ghost use Rattle.std.specs.Io.KnownBytes.{ReadConsumes, Consumes, IsAtEnd};
-ghost use Rattle.pgx_io.specs.Causes.{HasCause, Rose};
-ghost use Rattle.pgx_io.specs.Whole.{ReadsWhole, TakesFront};
+ghost use Rattle.pgx_io.specs.Causes.{HasCause};
+ghost use Rattle.pgx_io.specs.ReadWrite.{ReadsWhole, TakesFront};
+ghost use Rattle.pgx_io.specs.Seen.{SourceFailed};
 
 use column_types::{List, NoMemory};
 use std::alloc::Global;
@@ -16,21 +17,18 @@ pub struct Failed;
 
 /// Bytes to read, in order.
 pub trait Source {
-    ghost use Rattle.std.specs.Prelude.{Option};
+    ghost use Rattle.pgx_io.specs.Seen.{SourceSeen};
 
-    /// The bytes that are left to read, where the source tells them.
-    ghost rest: { Self → Option (List ℕ) };
-
-    /// How often the source has failed.
-    ghost faults: { Self → ℕ };
+    /// The bytes that are left to read, where the source tells them, and how often it has failed.
+    ghost seen: { Self → SourceSeen };
 
     /// Reads some of the bytes that are left into the start of `buf` and answers their number, 0 exactly at the end.
     /// A call that failed was counted, and what is left is as before.
     fn read(&mut self, buf: &mut [u8]) -> Result<usize, Failed>
         requires { 0 < length buf.old }
         ensures bound { ReadsAtMost result buf.new }
-        ensures bytes { ReadConsumes (rest self.old) (rest self.new) result buf.new }
-        ensures cause { HasCause (faults self.old) (faults self.new) result };
+        ensures bytes { ReadConsumes (seen self.old).rest (seen self.new).rest result buf.new }
+        ensures cause { HasCause (seen self.old).faults (seen self.new).faults result };
 }
 
 /// The most bytes that `read_all` accepts.
@@ -76,13 +74,13 @@ impl From<Failed> for ReadAllFault {
 /// there are at most 16,777,217 reads. After an error some of the bytes were taken and are lost.
 #[tactic(auto, using(crate::proofs::Wholes::reads_whole))]
 pub fn read_all<S: Source>(alloc: Global, source: &mut S) -> Result<List<u8>, ReadAllFault>
-    ensures told { ReadsWhole (S.rest source.old) result }
-    ensures whole { IfOk result (λ bytes. Consumes (S.rest source.old) (S.rest source.new) bytes) }
-    ensures end { OnOk result (IsAtEnd (S.rest source.new)) }
+    ensures told { ReadsWhole (S.seen source.old).rest result }
+    ensures whole { IfOk result (λ bytes. Consumes (S.seen source.old).rest (S.seen source.new).rest bytes) }
+    ensures end { OnOk result (IsAtEnd (S.seen source.new).rest) }
     ensures short { IfOk result (λ bytes. length bytes ≤ LIMIT) }
-    ensures left { OnErr result (TakesFront (S.rest source.old) (S.rest source.new)) }
-    ensures failed { IsErrOf result ReadAllFault.Failed → Rose (S.faults source.old) (S.faults source.new) }
-    ensures later { S.faults source.old ≤ S.faults source.new }
+    ensures left { OnErr result (TakesFront (S.seen source.old).rest (S.seen source.new).rest) }
+    ensures failed { IsErrOf result ReadAllFault.Failed → SourceFailed (S.seen source.old) (S.seen source.new) }
+    ensures later { (S.seen source.old).faults ≤ (S.seen source.new).faults }
 {
     let mut piece = [0u8; PIECE];
     let mut bytes = List::new(alloc);

@@ -30,9 +30,7 @@ impl<R: Read> StdinSource<R> {
 }
 
 impl<R: Read> Source for StdinSource<R> {
-    ghost rest = { λ s. s.0 };
-
-    ghost faults = { λ s. s.1 };
+    ghost seen = { λ s. record { rest = s.0; faults = s.1 } };
 
     fn read(&mut self, buf: &mut [u8]) -> Result<usize, Failed> {
         match self.inner.read(buf) {
@@ -69,9 +67,7 @@ impl<W: Write> StdoutSink<W> {
 }
 
 impl<W: Write> Sink for StdoutSink<W> {
-    ghost taken = { λ s. s.0 };
-
-    ghost faults = { λ s. s.1 };
+    ghost seen = { λ s. record { taken = s.0; faults = s.1 } };
 
     fn write(&mut self, bytes: &[u8]) -> Result<usize, Failed> {
         match self.inner.write(bytes) {
