@@ -143,7 +143,8 @@ module _ (files : Files) where
 
   missing_of_form : (name : List ℕ) (f : SourceForm) (told : List ℕ) → form_graph files name f ≡ Err (NoFile told) → files told ≡ None
   missing_of_form name (form.Inline vertices edges) told h = absurd (none_in_tables (inline_files name) (inline_of vertices edges) told h)
-  missing_of_form name (form.Files config changes) told h = missing_of_files config told h
+  missing_of_form name (form.Files config None) told h = missing_of_files config told h
+  missing_of_form name (form.Files config (Some changes)) told h = missing_of_files config told h
 
   missing_of_source : (source : SourceText) (told : List ℕ) → source_opened files source ≡ Err (NoFile told) → files told ≡ None
   missing_of_source source told h =

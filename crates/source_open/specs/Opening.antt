@@ -1,6 +1,8 @@
 -- What the sources of a script open to, over the files of a library.
 use Rattle.std.specs.Prelude.{◌≡◌, ℕ, ℤ, List, [], ◌∷◌, ◌++◌, map, codes, slice_get, unwrap_or, Option, Some, None, IfSome, Result, Ok, Err, ⊤}
+use Rattle.std.specs.List.{AllZip}
 use Rattle.pgx_io.specs.Files.{Files}
+use Rattle.pgx_io.specs.Seen.{LibrarySeen, LibraryFailed}
 use Rattle.graph_config.specs.Config.{ConfigData, config_of}
 use Rattle.graph_config.specs.Fault.{Fault}
 use Rattle.graph_config.specs.declared.fault.ConfigFault.{ConfigFault}
@@ -75,9 +77,18 @@ inline_files name = (name ++ codes ".V") ∷ (name ++ codes ".E") ∷ []
 abbrev pub lines_graph : List ℕ → List ℤ → List (ℤ × ℤ × ℤ) → Result GraphData SourceFault
 lines_graph name vertices edges = tables_named (inline_files name) (inline_of vertices edges)
 
+-- A source without a file of changes. No other is opened yet, and no script has one: `open_sources` and `check_sources` ask for it.
+abbrev pub HasNoChanges : SourceForm → Type 0
+HasNoChanges (form.Inline vertices edges) = ⊤
+HasNoChanges (form.Files config None) = ⊤
+HasNoChanges (form.Files config (Some changes)) = ⊥
+
+-- The graph of a source of this name before any change. What a file of changes brings is not defined here: `HasNoChanges` keeps the
+-- last case from being asked for.
 abbrev pub form_graph : Files → List ℕ → SourceForm → Result GraphData SourceFault
 form_graph files name (form.Inline vertices edges) = lines_graph name vertices edges
-form_graph files name (form.Files config changes) = file_graph files config
+form_graph files name (form.Files config None) = file_graph files config
+form_graph files name (form.Files config (Some changes)) = file_graph files config
 
 -- the graph of a source: an inline source looks up no file, another the one of its configuration and then those of its tables
 abbrev pub source_graph : Files → SourceText → Result GraphData SourceFault
@@ -103,6 +114,20 @@ names_of sources = map (λ source. source.name) sources
 abbrev pub opened_names : List SourceData → List (List ℕ)
 opened_names openings = map (λ opening. opening.name) openings
 
+-- the graph is that of the lines, where the records stand in the script; of files nothing is said
+abbrev pub IsOfLines : SourceForm → GraphData → Type 0
+IsOfLines (form.Inline vertices edges) graph = inline_of vertices edges ≡ Ok graph
+IsOfLines (form.Files config changes) graph = ⊤
+
+-- what an inline source opens to, whatever the library tells: the graph of its lines, without changes
+abbrev pub IsInlineOf : SourceForm → SourceData → Type 0
+IsInlineOf (form.Inline vertices edges) opening = (inline_of vertices edges ≡ Ok opening.opening) × (opening.changes ≡ [])
+IsInlineOf (form.Files config changes) opening = ⊤
+
+-- each inline source is open in its place with the graph of its lines
+abbrev pub AreInlineOf : List SourceText → List SourceData → Type 0
+AreInlineOf sources openings = AllZip (λ source opening. IsInlineOf source.form opening) sources openings
+
 -- a fault with its number and path: it never tells that memory ran out
 abbrev pub HasNumber : ConfigFault → Type 0
 HasNumber (config_fault.At number path) = ⊤
@@ -110,17 +135,17 @@ HasNumber config_fault.NoMemory = ⊥
 
 -- why reading what was got ends with a fault: it comes to this fault, or memory ran out
 abbrev pub ReadCause : {A : Type 0} → Result A SourceFault → SourceFault → Type 0
-ReadCause due (NoFile name) = ⊥
-ReadCause due (BadConfig file fault) = HasNumber fault × (due ≡ Err (BadConfig file fault))
-ReadCause due (BadTable file row number) = due ≡ Err (BadTable file row number)
-ReadCause due ReadFault = ⊥
-ReadCause due NoMemory = ⊤
+ReadCause expected (NoFile name) = ⊥
+ReadCause expected (BadConfig file fault) = HasNumber fault × (expected ≡ Err (BadConfig file fault))
+ReadCause expected (BadTable file row number) = expected ≡ Err (BadTable file row number)
+ReadCause expected ReadFault = ⊥
+ReadCause expected NoMemory = ⊤
 
--- Why opening ends with a fault, where the library tells the files `told` and what comes of files is `due`: it comes to this fault,
--- or the library's faults rose (`reading`), or memory ran out.
-abbrev pub OpenCause : {A : Type 0} → Option Files → (Files → Result A SourceFault) → Type 0 → SourceFault → Type 0
-OpenCause told due reading (NoFile name) = IfSome told (λ files. due files ≡ Err (NoFile name))
-OpenCause told due reading (BadConfig file fault) = HasNumber fault × IfSome told (λ files. due files ≡ Err (BadConfig file fault))
-OpenCause told due reading (BadTable file row number) = IfSome told (λ files. due files ≡ Err (BadTable file row number))
-OpenCause told due reading ReadFault = reading
-OpenCause told due reading NoMemory = ⊤
+-- Why opening ends with a fault, where `expected` is what comes of the library's files: it comes to this fault, or the library failed,
+-- or memory ran out.
+abbrev pub OpenCause : {A : Type 0} → LibrarySeen → LibrarySeen → (Files → Result A SourceFault) → SourceFault → Type 0
+OpenCause before after expected (NoFile name) = IfSome before.files (λ files. expected files ≡ Err (NoFile name))
+OpenCause before after expected (BadConfig file fault) = HasNumber fault × IfSome before.files (λ files. expected files ≡ Err (BadConfig file fault))
+OpenCause before after expected (BadTable file row number) = IfSome before.files (λ files. expected files ≡ Err (BadTable file row number))
+OpenCause before after expected ReadFault = LibraryFailed before after
+OpenCause before after expected NoMemory = ⊤

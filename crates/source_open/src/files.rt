@@ -1,8 +1,8 @@
 //! The graph of a source, from the lines of the script or from files.
 ghost use Rattle.std.specs.Prelude.{◌≡◌, ◌≤◌, ◌++◌, [], length, slice_get, unwrap_or, Ok, IfOk, IfErr, IfSome};
-ghost use Rattle.pgx_io.specs.Causes.{Rose};
 ghost use Rattle.pgx_io.specs.Files.{KeepsFiles};
-ghost use Rattle.source_open.specs.Opening.{file_got, files_got, config_read, tables_read, config_graph, file_graph, lines_graph, source_graph, inline_files as files_of_lines, table_fault as fault_named, ReadCause, OpenCause};
+ghost use Rattle.source_open.specs.Opening.{file_got, files_got, config_read, tables_read, config_graph, file_graph, lines_graph, source_graph, IsOfLines, inline_files as files_of_lines, table_fault as fault_named, ReadCause, OpenCause};
+ghost use Rattle.table_loader.specs.Inline.{inline_of};
 
 use crate::SourceFault;
 use column_types::{List, NoMemory, Text};
@@ -19,11 +19,11 @@ pub(crate) fn read_source_graph<L: Library>(
     source: &SourceText,
     lib: &mut L,
 ) -> Result<Graph, SourceFault>
-    ensures ok { IfOk result (λ graph. IfSome (L.files lib.old) (λ files. source_graph files source.now ≡ Ok graph)) }
-    ensures cause { IfErr result (OpenCause (L.files lib.old) (λ files. source_graph files source.now)
-        (Rose (L.faults lib.old) (L.faults lib.new))) }
-    ensures same { KeepsFiles (L.files lib.old) (L.files lib.new) }
-    ensures later { L.faults lib.old ≤ L.faults lib.new }
+    ensures ok { IfOk result (λ graph. IfSome (L.seen lib.old).files (λ files. source_graph files source.now ≡ Ok graph)) }
+    ensures cause { IfErr result (OpenCause (L.seen lib.old) (L.seen lib.new) (λ files. source_graph files source.now)) }
+    ensures inline { IfOk result (λ graph. IsOfLines source.now.form graph) }
+    ensures same { KeepsFiles (L.seen lib.old).files (L.seen lib.new).files }
+    ensures later { (L.seen lib.old).faults ≤ (L.seen lib.new).faults }
 {
     match &source.form {
         SourceForm::Inline { vertices, edges } => read_lines(
@@ -44,6 +44,7 @@ fn read_lines(
     edges: &[(i64, i64, i64)],
 ) -> Result<Graph, SourceFault>
     ensures ok { IfOk result (λ graph. lines_graph name.now vertices.now edges.now ≡ Ok graph) }
+    ensures inline { IfOk result (λ graph. inline_of vertices.now edges.now ≡ Ok graph) }
     ensures cause { IfErr result (ReadCause (lines_graph name.now vertices.now edges.now)) }
 {
     match read_inline(alloc, vertices, edges) {
@@ -57,11 +58,10 @@ fn read_lines(
 
 /// The graph of the configuration in the file of this name.
 fn read_files<L: Library>(alloc: Global, name: &str, lib: &mut L) -> Result<Graph, SourceFault>
-    ensures ok { IfOk result (λ graph. IfSome (L.files lib.old) (λ files. file_graph files name.now ≡ Ok graph)) }
-    ensures cause { IfErr result (OpenCause (L.files lib.old) (λ files. file_graph files name.now)
-        (Rose (L.faults lib.old) (L.faults lib.new))) }
-    ensures same { KeepsFiles (L.files lib.old) (L.files lib.new) }
-    ensures later { L.faults lib.old ≤ L.faults lib.new }
+    ensures ok { IfOk result (λ graph. IfSome (L.seen lib.old).files (λ files. file_graph files name.now ≡ Ok graph)) }
+    ensures cause { IfErr result (OpenCause (L.seen lib.old) (L.seen lib.new) (λ files. file_graph files name.now)) }
+    ensures same { KeepsFiles (L.seen lib.old).files (L.seen lib.new).files }
+    ensures later { (L.seen lib.old).faults ≤ (L.seen lib.new).faults }
 {
     let bytes = get_file(alloc, name, lib)?;
     let config = read_config_file(alloc, name, bytes)?;
@@ -90,11 +90,10 @@ fn read_config_tables<L: Library>(
     config: &Config,
     lib: &mut L,
 ) -> Result<Graph, SourceFault>
-    ensures ok { IfOk result (λ graph. IfSome (L.files lib.old) (λ files. config_graph files config.now ≡ Ok graph)) }
-    ensures cause { IfErr result (OpenCause (L.files lib.old) (λ files. config_graph files config.now)
-        (Rose (L.faults lib.old) (L.faults lib.new))) }
-    ensures same { KeepsFiles (L.files lib.old) (L.files lib.new) }
-    ensures later { L.faults lib.old ≤ L.faults lib.new }
+    ensures ok { IfOk result (λ graph. IfSome (L.seen lib.old).files (λ files. config_graph files config.now ≡ Ok graph)) }
+    ensures cause { IfErr result (OpenCause (L.seen lib.old) (L.seen lib.new) (λ files. config_graph files config.now)) }
+    ensures same { KeepsFiles (L.seen lib.old).files (L.seen lib.new).files }
+    ensures later { (L.seen lib.old).faults ≤ (L.seen lib.new).faults }
 {
     let tables = get_files(alloc, config.files.as_slice(), lib)?;
     let graph = read_table_files(alloc, config, tables)?;
@@ -123,12 +122,11 @@ fn get_files<L: Library>(
     names: &[Text],
     lib: &mut L,
 ) -> Result<List<List<u8>>, SourceFault>
-    ensures ok { IfOk result (λ tables. IfSome (L.files lib.old) (λ files. files_got files names.now ≡ Ok tables)) }
+    ensures ok { IfOk result (λ tables. IfSome (L.seen lib.old).files (λ files. files_got files names.now ≡ Ok tables)) }
     ensures one_each { IfOk result (λ tables. length tables ≡ length names.now) }
-    ensures cause { IfErr result (OpenCause (L.files lib.old) (λ files. files_got files names.now)
-        (Rose (L.faults lib.old) (L.faults lib.new))) }
-    ensures same { KeepsFiles (L.files lib.old) (L.files lib.new) }
-    ensures later { L.faults lib.old ≤ L.faults lib.new }
+    ensures cause { IfErr result (OpenCause (L.seen lib.old) (L.seen lib.new) (λ files. files_got files names.now)) }
+    ensures same { KeepsFiles (L.seen lib.old).files (L.seen lib.new).files }
+    ensures later { (L.seen lib.old).faults ≤ (L.seen lib.new).faults }
 {
     let mut tables = List::new(alloc);
     for name in names {
@@ -140,11 +138,10 @@ fn get_files<L: Library>(
 
 /// The bytes of the file of this name.
 fn get_file<L: Library>(alloc: Global, name: &str, lib: &mut L) -> Result<List<u8>, SourceFault>
-    ensures ok { IfOk result (λ bytes. IfSome (L.files lib.old) (λ files. file_got files name.now ≡ Ok bytes)) }
-    ensures cause { IfErr result (OpenCause (L.files lib.old) (λ files. file_got files name.now)
-        (Rose (L.faults lib.old) (L.faults lib.new))) }
-    ensures same { KeepsFiles (L.files lib.old) (L.files lib.new) }
-    ensures later { L.faults lib.old ≤ L.faults lib.new }
+    ensures ok { IfOk result (λ bytes. IfSome (L.seen lib.old).files (λ files. file_got files name.now ≡ Ok bytes)) }
+    ensures cause { IfErr result (OpenCause (L.seen lib.old) (L.seen lib.new) (λ files. file_got files name.now)) }
+    ensures same { KeepsFiles (L.seen lib.old).files (L.seen lib.new).files }
+    ensures later { (L.seen lib.old).faults ≤ (L.seen lib.new).faults }
 {
     match lib.get(alloc, name) {
         Ok(Some(bytes)) => Ok(bytes),

@@ -1,8 +1,7 @@
 //! Opening the sources of a script.
-ghost use Rattle.std.specs.Prelude.{◌≡◌, ◌<◌, ◌≤◌, Ok, IsOk, IfOk, OnOk, IfErr, IfSome};
-ghost use Rattle.pgx_io.specs.Causes.{Rose};
+ghost use Rattle.std.specs.Prelude.{◌≡◌, ◌<◌, ◌≤◌, Ok, IsOk, IfOk, OnOk, IfErr, IfSome, All};
 ghost use Rattle.pgx_io.specs.Files.{KeepsFiles};
-ghost use Rattle.source_open.specs.Opening.{opened, source_opened, names_of, opened_names, OpenCause};
+ghost use Rattle.source_open.specs.Opening.{opened, source_opened, names_of, opened_names, HasNoChanges, IsInlineOf, AreInlineOf, OpenCause};
 
 use crate::SourceFault;
 use crate::files::read_source_graph;
@@ -23,12 +22,13 @@ pub fn open_sources<R: Threads + Sync, L: Library>(
     sources: &[SourceText],
     lib: &mut L,
 ) -> Result<List<Shared<SourceData>>, SourceFault>
-    ensures ok { IfOk result (λ openings. IfSome (L.files lib.old) (λ files. opened files sources.now ≡ Ok openings)) }
+    requires no_changes { All (λ source. HasNoChanges source.form) sources.now }
+    ensures ok { IfOk result (λ openings. IfSome (L.seen lib.old).files (λ files. opened files sources.now ≡ Ok openings)) }
     ensures names { IfOk result (λ openings. opened_names openings ≡ names_of sources.now) }
-    ensures cause { IfErr result (OpenCause (L.files lib.old) (λ files. opened files sources.now)
-        (Rose (L.faults lib.old) (L.faults lib.new))) }
-    ensures same { KeepsFiles (L.files lib.old) (L.files lib.new) }
-    ensures later { L.faults lib.old ≤ L.faults lib.new }
+    ensures inline { IfOk result (λ openings. AreInlineOf sources.now openings) }
+    ensures cause { IfErr result (OpenCause (L.seen lib.old) (L.seen lib.new) (λ files. opened files sources.now)) }
+    ensures same { KeepsFiles (L.seen lib.old).files (L.seen lib.new).files }
+    ensures later { (L.seen lib.old).faults ≤ (L.seen lib.new).faults }
 {
     open_counted::<Brand, _, _>(rt, alloc, Blank::new(1), sources, lib)
 }
@@ -44,12 +44,12 @@ fn open_counted<C: Ledger, R: Threads + Sync, L: Library>(
     requires name { blank.name ≡ C.name }
     requires parts { blank.parts ≡ C.parts }
     requires some { 0 < blank.parts }
-    ensures ok { IfOk result (λ openings. IfSome (L.files lib.old) (λ files. opened files sources.now ≡ Ok openings)) }
+    ensures ok { IfOk result (λ openings. IfSome (L.seen lib.old).files (λ files. opened files sources.now ≡ Ok openings)) }
     ensures names { IfOk result (λ openings. opened_names openings ≡ names_of sources.now) }
-    ensures cause { IfErr result (OpenCause (L.files lib.old) (λ files. opened files sources.now)
-        (Rose (L.faults lib.old) (L.faults lib.new))) }
-    ensures same { KeepsFiles (L.files lib.old) (L.files lib.new) }
-    ensures later { L.faults lib.old ≤ L.faults lib.new }
+    ensures inline { IfOk result (λ openings. AreInlineOf sources.now openings) }
+    ensures cause { IfErr result (OpenCause (L.seen lib.old) (L.seen lib.new) (λ files. opened files sources.now)) }
+    ensures same { KeepsFiles (L.seen lib.old).files (L.seen lib.new).files }
+    ensures later { (L.seen lib.old).faults ≤ (L.seen lib.new).faults }
 {
     let mut steps = Steps::<C>::new(rt, blank);
     let mut openings = List::new(alloc);
@@ -66,12 +66,12 @@ fn open_source<C: Ledger, L: Library>(
     lib: &mut L,
     steps: &mut Steps<C>,
 ) -> Result<Shared<SourceData>, SourceFault>
-    ensures ok { IfOk result (λ opening. IfSome (L.files lib.old) (λ files. source_opened files source.now ≡ Ok opening)) }
+    ensures ok { IfOk result (λ opening. IfSome (L.seen lib.old).files (λ files. source_opened files source.now ≡ Ok opening)) }
     ensures name { IfOk result (λ opening. opening.name ≡ source.now.name) }
-    ensures cause { IfErr result (OpenCause (L.files lib.old) (λ files. source_opened files source.now)
-        (Rose (L.faults lib.old) (L.faults lib.new))) }
-    ensures same { KeepsFiles (L.files lib.old) (L.files lib.new) }
-    ensures later { L.faults lib.old ≤ L.faults lib.new }
+    ensures inline { IfOk result (λ opening. IsInlineOf source.now.form opening) }
+    ensures cause { IfErr result (OpenCause (L.seen lib.old) (L.seen lib.new) (λ files. source_opened files source.now)) }
+    ensures same { KeepsFiles (L.seen lib.old).files (L.seen lib.new).files }
+    ensures later { (L.seen lib.old).faults ≤ (L.seen lib.new).faults }
 {
     let graph = read_source_graph(alloc, source, lib)?;
     let opening = SourceData {
@@ -88,11 +88,11 @@ pub fn check_sources<L: Library>(
     sources: &[SourceText],
     lib: &mut L,
 ) -> Result<(), SourceFault>
-    ensures ok { OnOk result (IfSome (L.files lib.old) (λ files. IsOk (opened files sources.now))) }
-    ensures cause { IfErr result (OpenCause (L.files lib.old) (λ files. opened files sources.now)
-        (Rose (L.faults lib.old) (L.faults lib.new))) }
-    ensures same { KeepsFiles (L.files lib.old) (L.files lib.new) }
-    ensures later { L.faults lib.old ≤ L.faults lib.new }
+    requires no_changes { All (λ source. HasNoChanges source.form) sources.now }
+    ensures ok { OnOk result (IfSome (L.seen lib.old).files (λ files. IsOk (opened files sources.now))) }
+    ensures cause { IfErr result (OpenCause (L.seen lib.old) (L.seen lib.new) (λ files. opened files sources.now)) }
+    ensures same { KeepsFiles (L.seen lib.old).files (L.seen lib.new).files }
+    ensures later { (L.seen lib.old).faults ≤ (L.seen lib.new).faults }
 {
     for source in sources {
         check_source(alloc, source, lib)?;
@@ -106,11 +106,10 @@ fn check_source<L: Library>(
     source: &SourceText,
     lib: &mut L,
 ) -> Result<(), SourceFault>
-    ensures ok { OnOk result (IfSome (L.files lib.old) (λ files. IsOk (source_opened files source.now))) }
-    ensures cause { IfErr result (OpenCause (L.files lib.old) (λ files. source_opened files source.now)
-        (Rose (L.faults lib.old) (L.faults lib.new))) }
-    ensures same { KeepsFiles (L.files lib.old) (L.files lib.new) }
-    ensures later { L.faults lib.old ≤ L.faults lib.new }
+    ensures ok { OnOk result (IfSome (L.seen lib.old).files (λ files. IsOk (source_opened files source.now))) }
+    ensures cause { IfErr result (OpenCause (L.seen lib.old) (L.seen lib.new) (λ files. source_opened files source.now)) }
+    ensures same { KeepsFiles (L.seen lib.old).files (L.seen lib.new).files }
+    ensures later { (L.seen lib.old).faults ≤ (L.seen lib.new).faults }
 {
     read_source_graph(alloc, source, lib)?;
     Ok(())

@@ -5,8 +5,8 @@ use Rattle.source_open.proofs.files.get_files.Given as goal
 
 abbrev pub invariant-loop-name : goal.invariant-loop-name
 invariant-loop-name g l = record {
-  due : IfSome (g.L.Library.files l.fn.lib) (λ files. files_got files l.names ≡ got_after files l.tables (drop l.name-index l.names));
+  due : IfSome (g.L.Library.seen l.fn.lib).files (λ files. files_got files l.names ≡ got_after files l.tables (drop l.name-index l.names));
   count : length l.tables ≡ l.name-index;
-  same : KeepsFiles (g.L.Library.files l.fn.lib) (g.L.Library.files l.lib);
-  later : g.L.Library.faults l.fn.lib ≤ g.L.Library.faults l.lib;
+  same : KeepsFiles (g.L.Library.seen l.fn.lib).files (g.L.Library.seen l.lib).files;
+  later : (g.L.Library.seen l.fn.lib).faults ≤ (g.L.Library.seen l.lib).faults;
 }

@@ -6,7 +6,7 @@ use Rattle.source_open.proofs.open.check_sources.Given as goal
 
 abbrev pub invariant-loop-source : goal.invariant-loop-source
 invariant-loop-source g l = record {
-  due : IfSome (g.L.Library.files l.fn.lib) (λ files. (done : List SourceData) × (opened files l.sources ≡ opened_after files done (drop l.source-index l.sources)));
-  same : KeepsFiles (g.L.Library.files l.fn.lib) (g.L.Library.files l.lib);
-  later : g.L.Library.faults l.fn.lib ≤ g.L.Library.faults l.lib;
+  due : IfSome (g.L.Library.seen l.fn.lib).files (λ files. (done : List SourceData) × (opened files l.sources ≡ opened_after files done (drop l.source-index l.sources)));
+  same : KeepsFiles (g.L.Library.seen l.fn.lib).files (g.L.Library.seen l.lib).files;
+  later : (g.L.Library.seen l.fn.lib).faults ≤ (g.L.Library.seen l.lib).faults;
 }

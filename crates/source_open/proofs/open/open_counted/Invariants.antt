@@ -1,12 +1,13 @@
 use Rattle.std.proofs.Common.{◌≡◌, ◌≤◌, IfSome, drop, take}
 use Rattle.pgx_io.specs.Files.{KeepsFiles}
-use Rattle.source_open.specs.Opening.{opened, opened_after, opened_names, names_of}
+use Rattle.source_open.specs.Opening.{opened, opened_after, opened_names, names_of, AreInlineOf}
 use Rattle.source_open.proofs.open.open_counted.Given as goal
 
 abbrev pub invariant-loop-source : goal.invariant-loop-source
 invariant-loop-source g l = record {
-  due : IfSome (g.L.Library.files l.fn.lib) (λ files. opened files l.sources ≡ opened_after files l.openings (drop l.source-index l.sources));
+  due : IfSome (g.L.Library.seen l.fn.lib).files (λ files. opened files l.sources ≡ opened_after files l.openings (drop l.source-index l.sources));
   names : opened_names l.openings ≡ names_of (take l.source-index l.sources);
-  same : KeepsFiles (g.L.Library.files l.fn.lib) (g.L.Library.files l.lib);
-  later : g.L.Library.faults l.fn.lib ≤ g.L.Library.faults l.lib;
+  inline : AreInlineOf (take l.source-index l.sources) l.openings;
+  same : KeepsFiles (g.L.Library.seen l.fn.lib).files (g.L.Library.seen l.lib).files;
+  later : (g.L.Library.seen l.fn.lib).faults ≤ (g.L.Library.seen l.lib).faults;
 }
