@@ -3,6 +3,6 @@ pub mod Usages
 pub mod Statuses
 pub mod Answered
 pub mod Names
-pub mod Scripts
-pub mod Dues
+pub mod Expectations
 pub mod FewCommands
+pub mod Codes

@@ -1,13 +1,14 @@
 -- How a call of the program ends: what it says, the status, and why.
-use Rattle.std.specs.Prelude.{◌≡◌, ◌⊎◌, ◌==◌, ℕ, List, [], ◌++◌, Option, None, IsSome, IsSomeAnd, codes, if◌then◌else◌, ⊤}
+use Rattle.std.specs.Prelude.{◌≡◌, ◌⊎◌, ◌==◌, ℕ, List, [], ◌++◌, None, IsSome, IsSomeAnd, codes, if◌then◌else◌, ⊤}
 use Rattle.std.specs.Fmt.{decimal}
 use Rattle.std.specs.Io.KnownBytes.{Appends}
-use Rattle.pgx_io.specs.Files.{Files}
-use Rattle.pgx_io.specs.Whole.{AppendsFront}
+use Rattle.pgx_io.specs.Seen.{SinkSeen, SinkFailed}
+use Rattle.pgx_io.specs.ReadWrite.{AppendsFront}
 use Rattle.graph_config.specs.declared.fault.ConfigFault.{ConfigFault}
 use Rattle.graph_config.specs.declared.fault.ConfigFault.TheVariants as config_fault
-use Rattle.pgx_shell.specs.Causes.{StopCause}
+use Rattle.pgx_shell.specs.Causes.{CauseOf}
 use Rattle.pgx_shell.specs.FaultNames.{config_fault_name, table_fault_name}
+use Rattle.pgx_shell.specs.Outside.{Outside, ReadFailed}
 use Rattle.pgx_shell.specs.Texts.{Outcome, ActionOutcome}
 use Rattle.pgx_shell.specs.Words.{form_of, IsUsage}
 use Rattle.script_read.specs.declared.fault.LineWhy.{LineWhy}
@@ -31,7 +32,7 @@ why_text why.End = codes "end"
 abbrev pub path_text : ℕ → List ℕ → List ℕ
 path_text number path = if number == 3 then [] else codes " " ++ path
 
--- a configuration's fault; `HasNumber` says that no stop tells out of memory here
+-- a configuration's fault; that of a stop has a number (`HasNumber`), so the last line is never written
 abbrev pub config_fault_text : ConfigFault → List ℕ
 config_fault_text (config_fault.At number path) = codes "fault " ++ decimal number ++ codes " " ++ config_fault_name number ++ path_text number path
 config_fault_text config_fault.NoMemory = codes "no memory"
@@ -75,24 +76,50 @@ ending_status (usage place) = 2
 ending_status (done outcome) = 0
 ending_status (stopped stop) = stop_status stop
 
--- When each ending comes. `reading`: the source's or the library's faults rose.
-abbrev pub EndingCause : List (List ℕ) → Option (List ℕ) → Option Files → Type 0 → Ending → Type 0
-EndingCause words rest told reading (usage place) = (form_of words ≡ None) × IsUsage words place
-EndingCause words rest told reading (done outcome) = IsSomeAnd (form_of words) (λ action. ActionOutcome action rest told outcome)
-EndingCause words rest told reading (stopped NoMemory) = ⊤
-EndingCause words rest told reading (stopped stop) = IsSome (form_of words) × StopCause rest told reading ⊥ stop
+-- the words are a form, and the stop has its cause
+abbrev pub FormStopped : List (List ℕ) → Outside → Outside → Stop → Type 0
+FormStopped words before after stop = IsSome (form_of words) × CauseOf before.source.rest before.library.files (ReadFailed before after) ⊥ stop
 
--- The whole text was written and this is its status; or a prefix of it was written, the sink's faults rose, and the status
--- is 7.
-abbrev pub Tells : Option (List ℕ) → Option (List ℕ) → Type 0 → List ℕ → ℕ → ℕ → Type 0
-Tells old new writing text status code = ((code ≡ status) × Appends old new text) ⊎ ((code ≡ 7) × writing × AppendsFront old new text)
+-- When each stop ends a call: the words are a form, and the stop has its cause. A fault in writing ends none: it is told by the status
+-- alone. Memory may run out at any time.
+abbrev pub StoppedCause : List (List ℕ) → Outside → Outside → Stop → Type 0
+StoppedCause words before after TooLong = FormStopped words before after TooLong
+StoppedCause words before after (BadLine line why) = FormStopped words before after (BadLine line why)
+StoppedCause words before after (NoFile name) = FormStopped words before after (NoFile name)
+StoppedCause words before after (BadConfig file fault) = FormStopped words before after (BadConfig file fault)
+StoppedCause words before after (BadTable file row number) = FormStopped words before after (BadTable file row number)
+StoppedCause words before after ReadFault = FormStopped words before after ReadFault
+StoppedCause words before after WriteFault = FormStopped words before after WriteFault
+StoppedCause words before after NoMemory = ⊤
+
+-- when each ending comes
+abbrev pub EndingCause : List (List ℕ) → Outside → Outside → Ending → Type 0
+EndingCause words before after (usage place) = (form_of words ≡ None) × IsUsage words place
+EndingCause words before after (done outcome) = IsSomeAnd (form_of words) (λ action. ActionOutcome action before.source.rest before.library.files outcome)
+EndingCause words before after (stopped stop) = StoppedCause words before after stop
+
+-- The sink took the whole text and this is its status; or it took a prefix of it, failed, and the status is 7.
+abbrev pub WritesOrFails : SinkSeen → SinkSeen → List ℕ → ℕ → ℕ → Type 0
+WritesOrFails before after text status code =
+    ((code ≡ status) × Appends before.taken after.taken text) ⊎ ((code ≡ 7) × SinkFailed before after × AppendsFront before.taken after.taken text)
+
+-- every ending has its cause, its text and its status
+abbrev pub EndsWell : List (List ℕ) → Outside → Outside → ℕ → Type 0
+EndsWell words before after code =
+    (ending : Ending) × EndingCause words before after ending × WritesOrFails before.sink after.sink (ending_text ending) (ending_status ending) code
 
 -- The line of a stop is told, or, where there is no memory for it, that there is none.
-abbrev pub LineTold : Option (List ℕ) → Option (List ℕ) → Type 0 → Stop → ℕ → Type 0
-LineTold old new writing stop code =
-    Tells old new writing (error_line stop) (stop_status stop) code ⊎ Tells old new writing (error_line NoMemory) (stop_status NoMemory) code
+abbrev pub LineTold : SinkSeen → SinkSeen → Stop → ℕ → Type 0
+LineTold before after stop code =
+    WritesOrFails before after (error_line stop) (stop_status stop) code ⊎ WritesOrFails before after (error_line NoMemory) (stop_status NoMemory) code
 
 -- What ending a call does after a stop: nothing after a fault in writing, else it tells the line of the stop.
-abbrev pub StopTold : Option (List ℕ) → Option (List ℕ) → Type 0 → Stop → ℕ → Type 0
-StopTold old new writing WriteFault code = (code ≡ 7) × (new ≡ old)
-StopTold old new writing stop code = LineTold old new writing stop code
+abbrev pub StopTold : SinkSeen → SinkSeen → Stop → ℕ → Type 0
+StopTold before after TooLong code = LineTold before after TooLong code
+StopTold before after (BadLine line why) code = LineTold before after (BadLine line why) code
+StopTold before after (NoFile name) code = LineTold before after (NoFile name) code
+StopTold before after (BadConfig file fault) code = LineTold before after (BadConfig file fault) code
+StopTold before after (BadTable file row number) code = LineTold before after (BadTable file row number) code
+StopTold before after ReadFault code = LineTold before after ReadFault code
+StopTold before after WriteFault code = (code ≡ 7) × (after.taken ≡ before.taken)
+StopTold before after NoMemory code = LineTold before after NoMemory code

@@ -9,7 +9,7 @@ use Rattle.call_text.specs.Replies.{reply_text, refusal_text, starved_text}
 use Rattle.graph_text.specs.Text.{text_of}
 use Rattle.session_run.specs.declared.record.LocalReply.{LocalReply}
 use Rattle.session_run.specs.declared.record.LocalReply.TheVariants.{Done, Rows, Refused}
-use Rattle.session_run.specs.Turns.{ActorDid, ActorRecord}
+use Rattle.session_run.specs.Record.{ActorDid, ActorRecord}
 
 -- the name of an actor, counted from 1
 abbrev pub name_of : List (List ℕ) → ℕ → List ℕ

@@ -1,10 +1,10 @@
+pub mod Outside
 pub mod FaultNames
 pub mod Sources
-pub mod Run
 pub mod Journal
-pub mod Due
+pub mod Expected
 pub mod Texts
 pub mod Causes
 pub mod Words
 pub mod Ending
-pub mod Rows
+pub mod Statuses

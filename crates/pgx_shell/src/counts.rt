@@ -1,6 +1,7 @@
 //! The numbers of a script.
 ghost use Rattle.std.specs.Prelude.{◌≡◌, ◌≤◌, IfOk};
-ghost use Rattle.pgx_shell.specs.Texts.{counts_text as text_of_counts, phase_commands as commands_of_phase, command_count as commands_of_phases};
+ghost use Rattle.script_read.specs.Phases.{phase_commands as commands_of_phase};
+ghost use Rattle.pgx_shell.specs.Texts.{counts_text as text_of_counts, command_count as commands_of_phases};
 
 use column_types::{List, NoMemory, Text};
 use graph_text::push_count;

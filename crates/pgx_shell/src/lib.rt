@@ -8,13 +8,12 @@ mod commands;
 mod counts;
 mod lines;
 mod printing;
-mod run;
+mod program;
 mod stop;
-mod whole;
 mod words;
 
 pub use commands::{Done, check, once};
 pub use printing::journal;
+pub use program::{Status, top};
 pub use stop::Stop;
-pub use whole::{Status, top};
 pub use words::Action;

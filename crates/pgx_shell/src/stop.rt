@@ -19,7 +19,7 @@ pub enum Stop {
     /// A configuration's file or a table's file is missing.
     #[error("no file {}", name.as_str())]
     NoFile { name: Text },
-    /// The file of this name holds no configuration. The fault has a number; it is never out of memory.
+    /// The file of this name holds no configuration. The fault has a number; it never tells that memory ran out.
     #[error("{}: {fault}", file.as_str())]
     BadConfig { file: Text, fault: ConfigFault },
     /// The first record at fault, counted from 1 in its file, and the number of its first fault. The lines of an inline

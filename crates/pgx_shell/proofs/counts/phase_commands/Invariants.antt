@@ -1,5 +1,5 @@
 use Rattle.std.proofs.Common.{◌≡◌, take}
-use Rattle.pgx_shell.specs.Texts.{phase_commands}
+use Rattle.script_read.specs.Phases.{phase_commands}
 use Rattle.pgx_shell.proofs.counts.phase_commands.Given as goal
 
 abbrev pub invariant-loop-block : goal.invariant-loop-block

@@ -1,7 +1,7 @@
 use Rattle.std.proofs.Common.{inl, inr, refl}
 use Rattle.pgx_shell.specs.Ending.{usage, stopped}
 use Rattle.pgx_shell.specs.declared.stop.Stop.TheVariants.{NoMemory}
-use Rattle.pgx_shell.proofs.whole.tell_usage.Goals as goal
+use Rattle.pgx_shell.proofs.program.tell_usage.Goals as goal
 
 pub returns-in-Ok : goal.returns-in-Ok
 returns-in-Ok g c = (usage c.args.place, inl refl, rw (c.as_str.ensures, c.in-Ok.ensures) at c.tell.ensures.told)

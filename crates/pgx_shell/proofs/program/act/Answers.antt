@@ -1,4 +1,4 @@
-use Rattle.pgx_shell.proofs.whole.act.Goals as goal
+use Rattle.pgx_shell.proofs.program.act.Goals as goal
 
 pub returns-in-Once-clause-written : goal.returns-in-Once-clause-written
 returns-in-Once-clause-written g c = rw c.in-Once.is c.once.ensures.written
