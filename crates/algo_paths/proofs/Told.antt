@@ -1,14 +1,14 @@
 -- what a snapshot tells of the weight of an edge
-use Rattle.std.proofs.Common.{◌≡◌, ℕ, ◌<◌, ◌≤◌, ℤ, Bool, true, false, not, cond, List, [], Some, None, pos, length, get_or, slice_get, option_map, refl, ap, sym, ◌∙◌, arith}
+use Rattle.std.proofs.Common.{◌≡◌, ℕ, ◌<◌, ◌≤◌, ℤ, Bool, true, false, not, cond, List, [], Some, None, pos, length, get_or, slice_get, map, option_map, refl, ap, sym, ◌∙◌, arith}
 use Rattle.std.specs.Prelude.{nat_lt, position}
 use Rattle.std.specs.List.{position_or_len}
 use Rattle.std.proofs.lemmas.Bool.Decides.{nat_tests}
 use Rattle.std.proofs.lemmas.List.Sums.{prefix_len-le-length}
-use Rattle.std.proofs.lemmas.List.{get_or_past}
+use Rattle.std.proofs.lemmas.List.{get_or_past, length-map}
 use Rattle.std.proofs.lemmas.List.Elements.{All-get_or}
 use Rattle.std.proofs.lemmas.Option.{slice_get-map, slice_get_within, slice_get-get_or, get_or_from_slice_get, same_Some}
 use Rattle.column_types.specs.declared.value.Value.{Value}
-use Rattle.column_types.specs.declared.value.Value.TheVariants.{Null}
+use Rattle.column_types.specs.declared.value.Value.TheVariants.{Null, Long}
 use Rattle.graph_schema.specs.declared.schema.EdgeTable.{EdgeTable}
 use Rattle.graph_model.specs.declared.row.EdgeRow.{EdgeRow}
 use Rattle.graph_model.specs.Keys.{rows_at}
@@ -38,6 +38,13 @@ module _ (g : GraphData) (t i : ℕ) (r : EdgeRow) (at : slice_get (rows_at g.ed
   value_read p v there =
       let f : EdgeRow → Value = λ (x : EdgeRow). value_at p x.values in
       same_Some (f r) v (sym (slice_get-map f (rows_at g.edges t) i ∙ ap (option_map f) at) ∙ there)
+
+  -- the same where the column is read as numbers
+  pub number_read : (p : ℕ) (numbers : List ℤ) (d : ℤ) → edge_prop_values g t p ≡ map Long numbers → value_at p r.values ≡ Long (get_or numbers i d)
+  number_read p numbers d all =
+      let long : length (edge_prop_values g t p) ≡ length numbers = ap length all ∙ length-map numbers Long in
+      let within : i < length numbers = omega (arith, long, length-map (rows_at g.edges t) (λ (x : EdgeRow). value_at p x.values), slice_get_within (rows_at g.edges t) i r at) in
+      value_read p (Long (get_or numbers i d)) (ap (λ (values : List Value). slice_get values i) all ∙ slice_get-map Long numbers i ∙ ap (option_map Long) (slice_get-get_or numbers i d within))
 
   pub key_read : (key : ℤ) → slice_get (edge_keys_at g t) i ≡ Some key → key ≡ r.key
   key_read key there =

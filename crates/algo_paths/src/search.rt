@@ -35,7 +35,7 @@ pub(crate) fn digraph_least_weights<R: Threads + Sync>(
 {
     let mut best = no_weights(alloc, digraph.vertex_count())?;
     best.set(from as usize, 0);
-    let mut queue = BinaryHeap::new(alloc);
+    let mut queue = BinaryHeap::with_capacity(alloc, digraph.vertex_count() as usize)?;
     enqueue(&mut queue, from, 0)?;
     'waves: while !queue.is_empty() {
         let wave = next_wave(alloc, &mut queue, best.as_slice())?;
@@ -92,11 +92,11 @@ fn told(alloc: Global, best: &[u64]) -> Result<List<Option<i64>>, NoMemory>
     ensures len { IfOk result (λ found. length found ≡ length best.now) }
     ensures each { IfOk result (λ found. (v : ℕ) → v < length best.now → IsTold (slice_index best.now v) (slice_index_or found v None)) }
 {
-    let mut found = List::new(alloc);
+    let mut found = Vec::with_capacity(alloc, best.len())?;
     for weight in best {
         found.push(tell(*weight))?;
     }
-    Ok(found)
+    Ok(List::from_vec(found))
 }
 
 fn tell(weight: u64) -> Option<i64>

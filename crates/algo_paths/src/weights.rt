@@ -1,12 +1,13 @@
 //! The weights of the edges of a snapshot.
-ghost use Rattle.std.specs.Prelude.{◌≡◌, ◌<◌, ◌^◌, All, IfOk, IfErr, IfSome, OnOk, Some, ◌&&◌, length, position, slice_get};
+ghost use Rattle.std.specs.Prelude.{◌≡◌, ◌<◌, ◌^◌, All, IfOk, IfErr, IfSome, OnOk, Some, ◌&&◌, length, map, position, slice_get};
 ghost use Rattle.std.specs.List.{position_or_len};
 ghost use Rattle.graph_model.specs.declared.row.EdgeRow.{EdgeRow};
 ghost use Rattle.graph_model.specs.Keys.{rows_at};
 ghost use Rattle.graph_model.specs.Graph.{edge_props_at};
 ghost use Rattle.graph_snap.specs.Reading.{HasEdge};
 ghost use Rattle.column_types.specs.Value.{cell_value};
-ghost use Rattle.graph_slots.specs.Meaning.{value_at};
+ghost use Rattle.graph_slots.specs.Meaning.{value_at, edge_prop_values};
+ghost use Rattle.column_types.specs.declared.value.Value.TheVariants.{Long};
 ghost use Rattle.algo_digraph.specs.DigraphOf.{all_edges};
 ghost use Rattle.algo_paths.specs.Weights.{is_named, is_whole, has_whole, has_weight, natural, weight_of_value, edge_weight, AreWeights};
 ghost use Rattle.algo_paths.specs.Reading.{ReadCause, TableCause, AddsWeights};
@@ -14,6 +15,7 @@ ghost use Rattle.algo_paths.specs.Reading.{ReadCause, TableCause, AddsWeights};
 use crate::PathFault;
 use column_types::{Cell, Kind, List};
 use graph_schema::{EdgeTable, Prop};
+use graph_slots::SlotName;
 use graph_snap::{EdgeAt, Snapshot};
 use std::alloc::Global;
 
@@ -72,9 +74,11 @@ fn push_weights(
     ensures cause { IfErr result (TableCause on.now name.now table) }
 {
     let prop = prop_place(table_props(on, table), name);
+    let longs = long_values(on, table, prop);
+    weights.with_room(on.edge_count(table))?;
     for place in 0..on.edge_count(table) {
         let at = EdgeAt { table, place };
-        let Some(weight) = weight_at(on, at, prop) else {
+        let Some(weight) = weight_at(on, at, prop, longs) else {
             return Err(PathFault::BadWeight {
                 edge: on.edge_key(at),
             });
@@ -108,14 +112,31 @@ fn prop_named(props: &[Prop], name: &str) -> Option<usize>
     props.iter().position(|prop| prop.name.as_str() == name)
 }
 
-/// The weight of an edge: its value of the property of that place, where this is a weight.
-fn weight_at(on: &Snapshot, at: EdgeAt, prop: usize) -> Option<u64>
+/// The values of a property of the edges of a table as they lie in memory, where they are LONGs and none of them is NULL.
+fn long_values(on: &Snapshot, table: u32, prop: usize) -> Option<&[i64]>
+    requires table { table < length on.now.schema.edges }
+    ensures { IfSome result (λ longs. edge_prop_values on.now table prop ≡ map Long longs.now) }
+{
+    on.sound();
+    if prop >= table_props(on, table).len() {
+        return None;
+    }
+    on.column(SlotName::EdgeProp(table, prop as u32)).longs()
+}
+
+/// The weight of an edge: its value of the property of that place, where this is a weight. `longs` are all values of the
+/// property, if they are known.
+fn weight_at(on: &Snapshot, at: EdgeAt, prop: usize, longs: Option<&[i64]>) -> Option<u64>
     requires table { at.table < length on.now.schema.edges }
     requires edge { HasEdge on.now at }
+    requires longs { IfSome longs (λ numbers. edge_prop_values on.now at.table prop ≡ map Long numbers.now) }
     ensures value { (r : EdgeRow) → slice_get (rows_at on.now.edges at.table) at.place ≡ Some r → result ≡ weight_of_value (value_at prop r.values) }
     ensures fit { IfSome result (λ w. w < 2 ^ 63) }
 {
     on.sound();
+    if let Some(numbers) = longs {
+        return weight_of_number(numbers[at.place as usize]);
+    }
     if prop >= table_props(on, at.table).len() {
         return None;
     }

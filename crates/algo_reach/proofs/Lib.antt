@@ -2,3 +2,4 @@ pub mod Marking
 pub mod Walking
 pub mod Spreading
 pub mod LeastLabels
+pub mod Forests

@@ -4,6 +4,7 @@ ghost use Rattle.algo_digraph.specs.Walks.{Joins, IsLabel};
 ghost use Rattle.algo_digraph.specs.Marks.{mark_in};
 ghost use Rattle.algo_reach.specs.Marks.{mark_of, HasNeighbor, IsMarking, IsPulled, AreUniform, IsLabelling, IsSpreading};
 
+use crate::forest::forest_components;
 use crate::marks::{has_source, has_target, mark_sources, mark_targets, newly_marked};
 use algo_digraph::{FlatDigraph, Marks, UNMARKED, is_wide};
 use column_types::{List, NoMemory};
@@ -22,6 +23,9 @@ pub(crate) fn digraph_components<R: Threads + Sync>(
     ensures len { IfOk result (λ labels. length labels ≡ digraph.now.vertices) }
     ensures each { IfOk result (λ labels. (v : ℕ) → v < digraph.now.vertices → IsLabel digraph.now v (slice_index labels v)) }
 {
+    if workers == 1 {
+        return forest_components(alloc, digraph);
+    }
     let mut labels = Marks::none(alloc, digraph.vertex_count())?;
     for start in 0..digraph.vertex_count() {
         label_from(rt, alloc, digraph, &mut labels, start, workers)?;

@@ -10,7 +10,7 @@ pub waves-init : goal.waves-init
 waves-init g c =
     let digraph = c.args.digraph.now in
     let best : c.set.new.self ≡ set (replicate digraph.vertices 9223372036854775808) c.args.from 0 = c.set.ensures ∙ ap (λ l. set l c.args.from 0) (c.in_ok-best.ensures ∙ ap (λ k. replicate k 9223372036854775808) c.vertex_count.ensures.count) in
-    let queue = rw c.new-queue.ensures.items at c.in_ok-enqueue.ensures in
+    let queue = rw c.in_ok-queue.ensures.items at c.in_ok-enqueue.ensures in
     search_reordered digraph c.args.weights.now c.args.from c.set.new.self _ _ queue (first_search digraph c.args.weights.now c.args.from c.requires.from c.set.new.self best)
 
 pub next_wave-requires-clause-within : goal.next_wave-requires-clause-within

@@ -4,6 +4,6 @@ use Rattle.algo_paths.proofs.search.told.Given as goal
 
 abbrev pub invariant-loop-weight : goal.invariant-loop-weight
 invariant-loop-weight l = record {
-  len : length l.found ≡ l.weight-index;
-  each : (v : ℕ) → v < l.weight-index → IsTold (slice_index l.best v) (slice_index_or l.found v None);
+  len : length l.found.items ≡ l.weight-index;
+  each : (v : ℕ) → v < l.weight-index → IsTold (slice_index l.best v) (slice_index_or l.found.items v None);
 }

@@ -1,7 +1,8 @@
-use Rattle.std.proofs.Common.{◌≤◌, ◌<◌, ◌∙◌, ap, sym, length, arith, rules}
+use Rattle.std.proofs.Common.{◌≤◌, ◌<◌, ◌∙◌, ap, sym, length, get_or, pos, w64, FitsSigned, arith, rules}
+use Rattle.std.proofs.lemmas.Int.{to_z-of_z}
 use Rattle.graph_model.specs.Graph.{edge_props_at}
-use Rattle.algo_paths.specs.Weights.{weight_of_value}
-use Rattle.algo_paths.proofs.Told.{null_past, value_read, few_props}
+use Rattle.algo_paths.specs.Weights.{natural, weight_of_value}
+use Rattle.algo_paths.proofs.Told.{null_past, value_read, few_props, number_read}
 use Rattle.algo_paths.proofs.weights.weight_at.Goals as goal
 
 pub returns-then-prop-table_props-clause-value : goal.returns-then-prop-table_props-clause-value
@@ -18,3 +19,11 @@ overflow_cast-prop c =
 pub returns-clause-value : goal.returns-clause-value
 returns-clause-value c = λ r at.
     c.weight_of.ensures.value ∙ ap weight_of_value (sym (value_read c.args.on.now c.args.at.table c.args.at.place r at c.args.prop _ c.edge_value.ensures))
+
+pub returns-in-Some-clause-value : goal.returns-in-Some-clause-value
+returns-in-Some-clause-value c = λ r at.
+    let number = get_or c.in-Some.numbers.now c.args.at.place (pos 0) in
+    let fits : FitsSigned w64 number = search rules in
+    let all = rw c.in-Some.is at c.requires.longs in
+    let read = number_read c.args.on.now c.args.at.table c.args.at.place r at c.args.prop c.in-Some.numbers.now (pos 0) all in
+    c.weight_of_number.ensures.value ∙ ap natural (to_z-of_z w64 number fits) ∙ sym (ap weight_of_value read)
