@@ -12,8 +12,11 @@ ALLOWED = {
     "start": (("source", "phase"), "before 'phase'"),
     "vertices": (("v", "e", "end"), "inside an inline source"),
     "edges": (("e", "end"), "inside an inline source, after its first 'e' line"),
-    "phase": (("actor",), "right after 'phase'"),
-    "actor": (("open", "close", "columns", "load", "clone", "release", "show", "rows"), "among the commands of an actor"),
+    "phase": (("actor", "phase"), "right after 'phase'"),
+    "actor": (
+        ("open", "close", "columns", "load", "clone", "release", "show", "rows", "actor", "phase"),
+        "among the commands of an actor",
+    ),
 }
 
 # How each line is written.
@@ -43,10 +46,11 @@ class Source:
 
 
 class Reading:
-    """What stands before a line of a script: the place of the line, and the sources, all lines before it being right."""
+    """What stands before a line of a script, all lines before it being right: the place of the line, the sources, and the actors of
+    its phase, each with the number of its line."""
 
     def __init__(self):
-        self.place, self.sources, self.commands, self.phase, self.actor = "start", [], 0, None, None
+        self.place, self.sources, self.actors = "start", [], {}
         self.number, self.line = 0, b""
 
     def take(self, line, number):
@@ -62,11 +66,10 @@ class Reading:
         elif first == b"end" and self.place in ("vertices", "edges"):
             self.place = "start"
         elif first == b"phase":
-            self.place, self.phase = "phase", number
+            self.place, self.actors = "phase", {}
         elif first == b"actor":
-            self.place, self.actor = "actor", number
-        elif self.place == "actor":
-            self.commands += 1
+            self.place = "actor"
+            self.actors[words[1].decode()] = number
 
 
 def lines_of(data):

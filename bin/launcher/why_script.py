@@ -110,12 +110,7 @@ def next_source_line(reading):
 
 
 def explain_later(fault):
-    first, reading = fault.first, fault.reading
-    it = fault.mark_word(fault.explain(f"{quoted(first)} is part of the language, but not built yet"), 0)
-    if first == "phase":
-        return it.note(f"A script has one phase today, and it begins in line {reading.phase}.")
-    if first == "actor":
-        return it.note(f"A script has one actor today, and it stands in line {reading.actor}.")
+    it = fault.mark_word(fault.explain(f"{quoted(fault.first)} is part of the language, but not built yet"), 0)
     return it.note("Leave the line out. docs/SCRIPT.md has the commands that are built.")
 
 
@@ -214,15 +209,21 @@ def bad_number(word):
 
 
 def explain_twice(fault):
-    name = fault.word(1)
-    first = next(it.line for it in fault.reading.sources if it.name == name)
+    name, reading = fault.word(1), fault.reading
+    if fault.first == "actor":
+        first = reading.actors[name]
+        it = fault.mark_word(fault.explain(f"the actor {quoted(name)} stands in this phase already, in line {first}"), 1)
+        return it.note("Put its commands together, or begin another phase before this line.")
+    first = next(it.line for it in reading.sources if it.name == name)
     it = fault.mark_word(fault.explain(f"a source {quoted(name)} stands already, in line {first}"), 1)
     return it.note("Give one of the two another name.")
 
 
 def explain_many(fault):
-    if fault.reading.place == "start":
+    if fault.first == "source":
         it = fault.explain("the 65th source: a script has at most 64")
+    elif fault.first == "actor":
+        it = fault.explain("the 129th actor: a script has at most 128, in all its phases")
     else:
         it = fault.explain("the 65,537th command: a script has at most 65,536")
     return it.mark(fault.line, 0, len(fault.line)).note("Split the script.")
