@@ -1,102 +1,153 @@
 -- A command that is read is one of the grammar.
-use Rattle.std.proofs.Common.{◌≡◌, refl, ℕ, List, Ok, Err}
-use Rattle.std.specs.Prelude.{codes}
+use Rattle.std.proofs.Common.{◌≡◌, ◌∙◌, sym, refl, ap, subst, ℕ, List, [], ◌∷◌, Bool, true, false, if◌then◌else◌, Option, Some, None, Ok, Err, rules}
+use Rattle.std.specs.Prelude.{◌&&◌, IsTrue, is_some, find, ⊤}
+use Rattle.std.specs.List.{AllByRecursion, join_with_byte}
+use Rattle.std.proofs.lemmas.Bool.{false≢true}
+use Rattle.std.proofs.lemmas.List.Splits.{join_with_byte-slice_split}
+use Rattle.script_read.specs.declared.fault.LineWhy.{LineWhy}
 use Rattle.script_read.specs.declared.fault.LineWhy.TheVariants as why
 use Rattle.script_read.specs.declared.script.Command.{Command}
 use Rattle.script_read.specs.declared.script.Form.{Form}
-use Rattle.script_read.specs.declared.script.Form.TheVariants as form
-use Rattle.script_read.specs.Commands.{open_of, close_of, columns_of, load_of, clone_of, release_of, show_of, rows_of, graph_form_of, form_of, command_of}
-use Rattle.script_read.specs.Meaning.{IsCommand}
-use Rattle.script_read.specs.Words.{same, word_at, alone, one_name, two_names}
-use Rattle.script_read.proofs.Inversions.{err_ok, carried, either, first}
-use Rattle.script_read.proofs.Shapes.{Begins, alone_is, one_name_is, two_names_is}
+use Rattle.script_read.specs.Commands.{CommandRow, commands, row_of, by_row, checked, form_of, command_of}
+use Rattle.script_read.specs.Dues.{Due, text, a_name, a_file, a_key, fits, wrong_word}
+use Rattle.script_read.specs.Faults.{◌>>=◌, unless}
+use Rattle.script_read.specs.Meaning.{IsName, IsFileName, IsCommand}
+use Rattle.script_read.specs.Words.{same, words_of, word_in, is_name, is_file_name, key_number}
+use Rattle.script_read.proofs.Inversions.{err_ok, carried, first, same_is}
 
--- the line, read as this form, is a command
-abbrev Spells : List ℕ → Form → Type 0
-Spells line f = IsCommand (record { line = line; form = f })
+-- ---- words that are what is due
 
-open_is : (line : List ℕ) (f : Form) → Begins line (codes "open") → open_of line ≡ Ok f → Spells line f
-unfolding open_of
-open_is line f w h =
-    let a = first (alone line) _ f h in
-    carried (Spells line) form.Open f a.2 (record { spells = alone_is line _ a.0 w a.1; names = tt })
+-- the words that stand where no text is due, each what is due
+abbrev Filled : List Due → Type 0
+Filled [] = ⊤
+Filled (text t ∷ dues) = Filled dues
+Filled (a_name ∷ dues) = ((word : List ℕ) × IsName word) × Filled dues
+Filled (a_file ∷ dues) = ((word : List ℕ) × IsFileName word) × Filled dues
+Filled (a_key ∷ dues) = ((word : List ℕ) × IsTrue (is_some (key_number word))) × Filled dues
 
-close_is : (line : List ℕ) (f : Form) → Begins line (codes "close") → close_of line ≡ Ok f → Spells line f
-unfolding close_of
-close_is line f w h =
-    let a = first (alone line) _ f h in
-    carried (Spells line) form.Close f a.2 (record { spells = alone_is line _ a.0 w a.1; names = tt })
+-- all words, with the texts that are due
+abbrev fill : (dues : List Due) → Filled dues → List (List ℕ)
+fill [] x = []
+fill (text t ∷ dues) x = t ∷ fill dues x
+fill (a_name ∷ dues) x = x.0.0 ∷ fill dues x.1
+fill (a_file ∷ dues) x = x.0.0 ∷ fill dues x.1
+fill (a_key ∷ dues) x = x.0.0 ∷ fill dues x.1
 
-columns_is : (line : List ℕ) (f : Form) → Begins line (codes "columns") → columns_of line ≡ Ok f → Spells line f
-unfolding columns_of
-columns_is line f w h =
-    let a = first (alone line) _ f h in
-    carried (Spells line) form.Columns f a.2 (record { spells = alone_is line _ a.0 w a.1; names = tt })
+record Meets (dues : List Due) (words : List (List ℕ)) : Type 0 where
+  parts : Filled dues
+  are : words ≡ fill dues parts
 
-load_is : (line : List ℕ) (f : Form) → Begins line (codes "load") → load_of line ≡ Ok f → Spells line f
-unfolding load_of
-load_is line f w h =
-    let a = first (two_names line (codes "from")) _ f h in
-    let n = two_names_is line _ _ a.0 w a.1 in
-    carried (Spells line) (form.Load a.0.0 a.0.1) f a.2 (record { spells = n.spells; names = n.are_names })
+both_true : (a b : Bool) → (a && b) ≡ true → (a ≡ true) × (b ≡ true)
+both_true true b h = (refl, h)
+both_true false b h = absurd (false≢true h)
 
-clone_is : (line : List ℕ) (f : Form) → Begins line (codes "clone") → clone_of line ≡ Ok f → Spells line f
-unfolding clone_of
-clone_is line f w h =
-    let a = first (two_names line (codes "from")) _ f h in
-    let n = two_names_is line _ _ a.0 w a.1 in
-    carried (Spells line) (form.Clone a.0.0 a.0.1) f a.2 (record { spells = n.spells; names = n.are_names })
+no_why : (b : Bool) (o : Option LineWhy) (w : LineWhy) → (if b then o else Some w) ≡ None → (b ≡ true) × (o ≡ None)
+no_why true o w h = (refl, h)
+no_why false o w h = cc
 
-release_is : (line : List ℕ) (f : Form) → Begins line (codes "release") → release_of line ≡ Ok f → Spells line f
-unfolding release_of
-release_is line f w h =
-    let a = first (one_name line) _ f h in
-    let n = one_name_is line _ a.0 w a.1 in
-    carried (Spells line) (form.Release a.0) f a.2 (record { spells = n.spells; names = n.is_name })
+same_words : (x y : List ℕ) (xs ys : List (List ℕ)) → x ≡ y → xs ≡ ys → x ∷ xs ≡ y ∷ ys
+same_words x y xs ys e f = cc
 
-show_is : (line : List ℕ) (f : Form) → Begins line (codes "show") → show_of line ≡ Ok f → Spells line f
-unfolding show_of
-show_is line f w h =
-    let a = first (one_name line) _ f h in
-    let n = one_name_is line _ a.0 w a.1 in
-    carried (Spells line) (form.Show a.0) f a.2 (record { spells = n.spells; names = n.is_name })
+meets : (dues : List Due) (words : List (List ℕ)) → fits dues words ≡ true → wrong_word dues words ≡ None → Meets dues words
+meets [] [] f w = record { parts = tt; are = refl }
+meets [] (x ∷ words) f w = absurd (false≢true f)
+meets (text t ∷ dues) [] f w = absurd (false≢true f)
+meets (text t ∷ dues) (x ∷ words) f w =
+    let a = both_true (fits dues words) (same x t) f in
+    let m = meets dues words a.0 w in
+    record { parts = m.parts; are = same_words x t words (fill dues m.parts) (same_is x t a.1) m.are }
+meets (a_name ∷ dues) [] f w = absurd (false≢true f)
+meets (a_name ∷ dues) (x ∷ words) f w =
+    let a = no_why (is_name x) (wrong_word dues words) why.Name w in
+    let m = meets dues words f a.1 in
+    record { parts = ((x, a.0), m.parts); are = ap (λ (l : List (List ℕ)). x ∷ l) m.are }
+meets (a_file ∷ dues) [] f w = absurd (false≢true f)
+meets (a_file ∷ dues) (x ∷ words) f w =
+    let a = no_why (is_file_name x) (wrong_word dues words) why.Name w in
+    let m = meets dues words f a.1 in
+    record { parts = ((x, a.0), m.parts); are = ap (λ (l : List (List ℕ)). x ∷ l) m.are }
+meets (a_key ∷ dues) [] f w = absurd (false≢true f)
+meets (a_key ∷ dues) (x ∷ words) f w =
+    let a = no_why (is_some (key_number x)) (wrong_word dues words) why.Number w in
+    let m = meets dues words f a.1 in
+    record { parts = ((x, a.0), m.parts); are = ap (λ (l : List (List ℕ)). x ∷ l) m.are }
 
-rows_is : (line : List ℕ) (f : Form) → Begins line (codes "rows") → rows_of line ≡ Ok f → Spells line f
-unfolding rows_of
-rows_is line f w h =
-    let a = first (one_name line) _ f h in
-    let n = one_name_is line _ a.0 w a.1 in
-    carried (Spells line) (form.Rows a.0) f a.2 (record { spells = n.spells; names = n.is_name })
+-- the words of a line that has what is due behind its first word
+record Behind (dues : List Due) (words : List (List ℕ)) : Type 0 where
+  parts : Filled dues
+  are : words ≡ word_in words 0 ∷ fill dues parts
 
-no_word : (line : List ℕ) (f : Form) → Err why.Word ≡ Ok f → Spells line f
-no_word line f e = absurd (err_ok why.Word f e)
+passed_both : (b : Bool) (o : Option LineWhy) (u : Unit {0}) → unless (if b then o else Some why.Form) ≡ Ok u → (b ≡ true) × (o ≡ None)
+passed_both true None u h = (refl, refl)
+passed_both true (Some w) u h = absurd (err_ok w u h)
+passed_both false o u h = absurd (err_ok why.Form u h)
 
-graph_form_is : (line : List ℕ) (f : Form) → graph_form_of line ≡ Ok f → Spells line f
-unfolding graph_form_of
-graph_form_is line f h =
-    either (same (word_at line 0) (codes "load")) _ _ f _ (load_is line f)
-    (either (same (word_at line 0) (codes "clone")) _ _ f _ (clone_is line f)
-    (either (same (word_at line 0) (codes "release")) _ _ f _ (release_is line f)
-    (either (same (word_at line 0) (codes "show")) _ _ f _ (show_is line f)
-    (either (same (word_at line 0) (codes "rows")) _ _ f _ (rows_is line f) (no_word line f))))) h
+checked_is : (dues : List Due) (words : List (List ℕ)) (u : Unit {0}) → checked dues words ≡ Ok u → Behind dues words
+unfolding checked
+checked_is dues [] u h = absurd (err_ok why.Form u h)
+checked_is dues (w ∷ words) u h =
+    let a = passed_both (fits dues words) (wrong_word dues words) u h in
+    let m = meets dues words a.0 a.1 in
+    record { parts = m.parts; are = ap (λ (l : List (List ℕ)). w ∷ l) m.are }
 
-form_is : (line : List ℕ) (f : Form) → form_of line ≡ Ok f → Spells line f
+-- ---- the table
+
+-- the words with a space between each two, read as this form, are a command
+abbrev Spells : List (List ℕ) → Form → Type 0
+Spells words f = IsCommand (record { line = join_with_byte 32 words; form = f })
+
+abbrev RowSpells : CommandRow → Type 0
+RowSpells r = (x : Filled r.dues) → Spells (r.word ∷ fill r.dues x) (r.form (r.word ∷ fill r.dues x))
+
+-- each command's form spells the line of its row: behind the table of commands, this is all that is proved of one alone
+rows_spell : AllByRecursion RowSpells commands
+rows_spell = search rules
+
+-- ---- a line
+
+-- this row is the command's that begins with a word
+record IsRow (word : List ℕ) (r : CommandRow) : Type 0 where
+  spells : RowSpells r
+  begins : same word r.word ≡ true
+
+row_by : (b : Bool) (word : List ℕ) (x r : CommandRow) (rest : Option CommandRow) → same word x.word ≡ b → RowSpells x → (rest ≡ Some r → IsRow word r)
+    → (if b then Some x else rest) ≡ Some r → IsRow word r
+row_by true word x r rest e p f h = let d : x ≡ r = cc in subst (IsRow word) d (record { spells = p; begins = e })
+row_by false word x r rest e p f h = f h
+
+row_is : (rows : List CommandRow) (word : List ℕ) (r : CommandRow) → AllByRecursion RowSpells rows → find (λ (x : CommandRow). same word x.word) rows ≡ Some r → IsRow word r
+row_is [] word r all h = cc
+row_is (x ∷ rows) word r all h = row_by (same word x.word) word x r _ refl all.0 (λ g. row_is rows word r all.1 g) h
+
+spells_row : (r : CommandRow) (words : List (List ℕ)) → IsRow (word_in words 0) r → Behind r.dues words → Spells words (r.form words)
+spells_row r words i b =
+    let e : words ≡ r.word ∷ fill r.dues b.parts = b.are ∙ ap (λ (w : List ℕ). w ∷ fill r.dues b.parts) (same_is (word_in words 0) r.word i.begins) in
+    subst (λ (z : List (List ℕ)). Spells z (r.form z)) (sym e) (i.spells b.parts)
+
+form_by : (found : Option CommandRow) (words : List (List ℕ)) (f : Form) → ((r : CommandRow) → found ≡ Some r → IsRow (word_in words 0) r)
+    → by_row found (λ (r : CommandRow). checked r.dues words >>= (λ _. Ok (r.form words))) ≡ Ok f → Spells words f
+form_by None words f k h = absurd (err_ok why.Word f h)
+form_by (Some r) words f k h =
+    let a = first (checked r.dues words) _ f h in
+    carried (Spells words) (r.form words) f a.2 (spells_row r words (k r refl) (checked_is r.dues words a.0 a.1))
+
+form_is : (words : List (List ℕ)) (f : Form) → form_of words ≡ Ok f → Spells words f
 unfolding form_of
-form_is line f h =
-    either (same (word_at line 0) (codes "open")) _ _ f _ (open_is line f)
-    (either (same (word_at line 0) (codes "close")) _ _ f _ (close_is line f)
-    (either (same (word_at line 0) (codes "columns")) _ _ f _ (columns_is line f) (graph_form_is line f))) h
+form_is words f h = form_by (row_of (word_in words 0)) words f (λ r e. row_is commands (word_in words 0) r rows_spell e) h
+
+line_spells : (line : List ℕ) (f : Form) → Spells (words_of line) f → IsCommand (record { line = line; form = f })
+line_spells line f h = subst (λ (l : List ℕ). IsCommand (record { line = l; form = f })) (join_with_byte-slice_split 32 line) h
 
 -- a command that is read spells its line
 pub command_is : (line : List ℕ) (c : Command) → command_of line ≡ Ok c → IsCommand c
 unfolding command_of
 command_is line c h =
-    let a = first (form_of line) _ c h in
-    carried IsCommand (record { line = line; form = a.0 }) c a.2 (form_is line a.0 a.1)
+    let a = first (form_of (words_of line)) _ c h in
+    carried IsCommand (record { line = line; form = a.0 }) c a.2 (line_spells line a.0 (form_is (words_of line) a.0 a.1))
 
 -- it has the line that it was read from
 pub command_line_is : (line : List ℕ) (c : Command) → command_of line ≡ Ok c → c.line ≡ line
 unfolding command_of
 command_line_is line c h =
-    let a = first (form_of line) _ c h in
+    let a = first (form_of (words_of line)) _ c h in
     carried (λ (x : Command). x.line ≡ line) (record { line = line; form = a.0 }) c a.2 refl

@@ -11,3 +11,4 @@ pub mod Numbers
 pub mod Spelled
 pub mod Whys
 pub mod Surely
+pub mod DueWords

@@ -3,8 +3,8 @@ use Rattle.std.proofs.Common.{◌≡◌, ◌∙◌, ap, ℕ, ◌∷◌, List, �
 use Rattle.std.specs.Prelude.{◌==◌, not}
 use Rattle.script_read.specs.declared.fault.LineWhy.TheVariants as why
 use Rattle.script_read.specs.Meaning.{IsName}
-use Rattle.script_read.specs.Words.{same, word_at, word_count, name, alone, one_name, two_names}
-use Rattle.script_read.proofs.Inversions.{carried, passed, first, named, both, one_spelled, two_spelled, four_spelled, same_is}
+use Rattle.script_read.specs.Words.{same, word_at, word_count, alone, one_name}
+use Rattle.script_read.proofs.Inversions.{passed, named, one_spelled, two_spelled, same_is}
 
 -- the line's first word is this
 abbrev pub Begins : List ℕ → List ℕ → Type 0
@@ -28,26 +28,3 @@ one_name_is line word n w h =
     let a = passed (not (word_count line == 2)) why.Form _ n h in
     let b = named _ _ a.1 in
     record { spells = behind line word _ w (two_spelled line a.0) ∙ ap (λ (x : List ℕ). word ++ (32 ∷ x)) b.0; is_name = b.1 }
-
-pub record TwoNames (line word link : List ℕ) (names : List ℕ × List ℕ) : Type 0 where
-  pub spells : line ≡ word ++ (32 ∷ (names.0 ++ (32 ∷ (link ++ (32 ∷ names.1)))))
-  pub are_names : IsName names.0 × IsName names.1
-
-two_names_by : (word x link l y first second : List ℕ) → x ≡ first → l ≡ link → y ≡ second
-    → word ++ (32 ∷ (x ++ (32 ∷ (l ++ (32 ∷ y))))) ≡ word ++ (32 ∷ (first ++ (32 ∷ (link ++ (32 ∷ second)))))
-two_names_by word x link l y first second p q r = cc
-
-pub two_names_is : (line word link : List ℕ) (names : List ℕ × List ℕ) → Begins line word → two_names line link ≡ Ok names → TwoNames line word link names
-unfolding two_names
-two_names_is line word link names w h =
-    let a = passed _ why.Form _ names h in
-    let f = both _ _ a.0 in
-    let b = first (name (word_at line 1)) _ names a.1 in
-    let c = first (name (word_at line 3)) _ names b.2 in
-    let m = named _ _ b.1 in
-    let n = named _ _ c.1 in
-    carried (TwoNames line word link) (b.0, c.0) names c.2
-    (record {
-      spells = behind line word _ w (four_spelled line f.0) ∙ two_names_by word _ link _ _ _ _ m.0 (same_is (word_at line 2) link f.1) n.0;
-      are_names = (m.1, n.1);
-    })

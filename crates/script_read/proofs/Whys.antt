@@ -1,6 +1,6 @@
 -- The why of a line is the first that it has by the table of the grammar.
 use Rattle.std.proofs.Common.{◌≡◌, ◌∙◌, sym, refl, ap, ℕ, ℤ, ◌+◌, ◌≤◌, List, [], ◌∷◌, ◌++◌, length, Bool, true, false, if◌then◌else◌, Option, Some, None, Result, Ok, Err, arith}
-use Rattle.std.specs.Prelude.{◌==◌, ◌&&◌, not, nat_le, nat_lt, slice_get, unwrap_or, find, codes, is_some}
+use Rattle.std.specs.Prelude.{◌==◌, ◌&&◌, not, nat_le, nat_lt, slice_get, unwrap_or, find, map, option_map, codes, is_some}
 use Rattle.std.specs.List.{AllByRecursion}
 use Rattle.std.specs.Option.{option_or}
 use Rattle.std.specs.Result.{result_err}
@@ -13,9 +13,10 @@ use Rattle.script_read.specs.declared.reading.Section.{Section}
 use Rattle.script_read.specs.declared.reading.Section.TheVariants as section
 use Rattle.script_read.specs.declared.reading.Reading.{Reading}
 use Rattle.script_read.specs.declared.script.Block.{Block}
-use Rattle.script_read.specs.Commands.{open_of, close_of, columns_of, load_of, clone_of, release_of, show_of, rows_of, graph_form_of, form_of, command_of}
-use Rattle.script_read.specs.Faults.{◌>>=◌}
-use Rattle.script_read.specs.Grammar.{Due, text, a_name, a_file, a_key, fits, Row, source_forms, command_rows, rows_in, words_why, row_why, has_text, actors_here, source_why, actor_why, command_why, limit_why, first_why}
+use Rattle.script_read.specs.Commands.{CommandRow, commands, row_of as row_of_command, by_row, checked, form_of, command_of}
+use Rattle.script_read.specs.Dues.{Due, text, a_name, a_file, a_key, fits, words_why}
+use Rattle.script_read.specs.Faults.{◌>>=◌, unless}
+use Rattle.script_read.specs.Grammar.{Row, source_forms, command_form, command_rows, rows_in, row_why, has_text, actors_here, source_why, actor_why, command_why, limit_why, first_why}
 use Rattle.script_read.specs.Later.{comes_later}
 use Rattle.script_read.specs.Lines.{is_passed, line_step}
 use Rattle.script_read.specs.Sections.{new_source, inline_line, files_line, source_line, vertex_line, edge_line, end_line, blocks_at, first_phase_line, phase_line, number_of, has_block, new_block, actor_line, command_line, built_line, line_in}
@@ -23,7 +24,7 @@ use Rattle.script_read.specs.Phases.{IsActor, IsPhase}
 use Rattle.script_read.proofs.Blocks.{index, number_is, index_most, index_found, here_is, all_last}
 use Rattle.script_read.proofs.Inversions.{same_is}
 use Rattle.script_read.proofs.Kept.{AtSection, Phased, IsReading}
-use Rattle.script_read.specs.Words.{same, words_of, word_count, word_at, is_name, name, is_file_name, file_name, key_number, or_number, key, alone, one_name, two_names}
+use Rattle.script_read.specs.Words.{same, words_of, word_count, word_in, word_at, is_name, name, is_file_name, file_name, key_number, or_number, key, alone, one_name}
 
 -- ---- steps
 
@@ -112,22 +113,6 @@ keys_behind (a ∷ b ∷ c ∷ []) f = refl
 keys_behind (a ∷ b ∷ c ∷ d ∷ []) f = then_key b _ _ (λ x. then_key c _ _ (λ y. then_key d _ None (λ z. refl)))
 keys_behind (a ∷ b ∷ c ∷ d ∷ e ∷ words) f = rw (ne_eqb (length (a ∷ b ∷ c ∷ d ∷ e ∷ words)) 4 (omega arith)) refl
 
-two_by : (b : Bool) (u v : List ℕ)
-    → result_err {T = List ℕ × List ℕ} (if not b then Err why.Form else (name u >>= (λ x. name v >>= (λ y. Ok (x, y)))))
-    ≡ (if b then (if is_name u then (if is_name v then None else Some why.Name) else Some why.Name) else Some why.Form)
-two_by true u v = then_name u _ _ (then_name v _ None refl)
-two_by false u v = refl
-
-two_names_behind : (words : List (List ℕ)) (link : List ℕ)
-    → result_err {T = List ℕ × List ℕ} (if not ((length words == 4) && same (at words 2) link) then Err why.Form else (name (at words 1) >>= (λ x. name (at words 3) >>= (λ y. Ok (x, y)))))
-    ≡ words_why ((a_name ∷ text link ∷ a_name ∷ []) ∷ []) words
-two_names_behind [] link = refl
-two_names_behind (a ∷ []) link = refl
-two_names_behind (a ∷ b ∷ []) link = refl
-two_names_behind (a ∷ b ∷ c ∷ []) link = refl
-two_names_behind (a ∷ b ∷ c ∷ d ∷ []) link = two_by (same c link) b d
-two_names_behind (a ∷ b ∷ c ∷ d ∷ e ∷ words) link = rw (ne_eqb (length (a ∷ b ∷ c ∷ d ∷ e ∷ words)) 4 (omega arith)) refl
-
 -- a name and a text that is due, with a test of the name behind them
 tested_by : {B : Type 0} (b : Bool) (u : List ℕ) (f : List ℕ → Result B LineWhy) (o : Option LineWhy) → result_err (f u) ≡ o
     → result_err (if not b then Err why.Form else (name u >>= f)) ≡ option_or (if b then (if is_name u then None else Some why.Name) else Some why.Form) o
@@ -213,42 +198,6 @@ one_name_why : (line : List ℕ) → Why (one_name line) (a_name ∷ []) line
 unfolding one_name word_count word_at
 one_name_why line = name_behind (words_of line)
 
-two_names_why : (line link : List ℕ) → Why (two_names line link) (a_name ∷ text link ∷ a_name ∷ []) line
-unfolding two_names word_count word_at
-two_names_why line link = two_names_behind (words_of line) link
-
-open_why : (line : List ℕ) → Why (open_of line) [] line
-unfolding open_of
-open_why line = then_fine (alone line) _ ∙ alone_why line
-
-close_why : (line : List ℕ) → Why (close_of line) [] line
-unfolding close_of
-close_why line = then_fine (alone line) _ ∙ alone_why line
-
-columns_why : (line : List ℕ) → Why (columns_of line) [] line
-unfolding columns_of
-columns_why line = then_fine (alone line) _ ∙ alone_why line
-
-load_why : (line : List ℕ) → Why (load_of line) (a_name ∷ text (codes "from") ∷ a_name ∷ []) line
-unfolding load_of
-load_why line = then_fine (two_names line (codes "from")) _ ∙ two_names_why line (codes "from")
-
-clone_why : (line : List ℕ) → Why (clone_of line) (a_name ∷ text (codes "from") ∷ a_name ∷ []) line
-unfolding clone_of
-clone_why line = then_fine (two_names line (codes "from")) _ ∙ two_names_why line (codes "from")
-
-release_why : (line : List ℕ) → Why (release_of line) (a_name ∷ []) line
-unfolding release_of
-release_why line = then_fine (one_name line) _ ∙ one_name_why line
-
-show_why : (line : List ℕ) → Why (show_of line) (a_name ∷ []) line
-unfolding show_of
-show_why line = then_fine (one_name line) _ ∙ one_name_why line
-
-rows_why : (line : List ℕ) → Why (rows_of line) (a_name ∷ []) line
-unfolding rows_of
-rows_why line = then_fine (one_name line) _ ∙ one_name_why line
-
 -- the row that is looked up, or the rows behind it
 chosen : {A : Type 0} (words : List (List ℕ)) (b : Bool) (x y : Result A LineWhy) (row : Row) (rest : Option Row)
     → result_err x ≡ words_why row.1 words → result_err y ≡ row_why words rest
@@ -264,17 +213,33 @@ row_of p line = find (λ row. same (word_at line 0) row.0) (rows_in p)
 abbrev command_row : List ℕ → Option Row
 command_row line = find (λ row. same (word_at line 0) row.0) command_rows
 
-form_why : (line : List ℕ) → result_err (form_of line) ≡ row_why (words_of line) (command_row line)
-unfolding form_of graph_form_of
+found_form : (b : Bool) (x : CommandRow) (rest : Option Row) (found : Option CommandRow) → rest ≡ option_map command_form found
+    → (if b then Some (command_form x) else rest) ≡ option_map command_form (if b then Some x else found)
+found_form true x rest found h = refl
+found_form false x rest found h = h
+
+-- the grammar's row of a command is that of the table of commands
+find_form : (rows : List CommandRow) (word : List ℕ) → find (λ (r : Row). same word r.0) (map command_form rows) ≡ option_map command_form (find (λ (r : CommandRow). same word r.word) rows)
+find_form [] word = refl
+find_form (x ∷ rows) word = found_form (same word x.word) x _ _ (find_form rows word)
+
+why_of : (o : Option LineWhy) → result_err (unless o) ≡ o
+why_of None = refl
+why_of (Some w) = refl
+
+checked_why : (dues : List Due) (words : List (List ℕ)) → result_err (checked dues words) ≡ words_why (dues ∷ []) words
+unfolding checked
+checked_why dues words = why_of (words_why (dues ∷ []) words)
+
+row_form_why : (found : Option CommandRow) (words : List (List ℕ))
+    → result_err (by_row found (λ (r : CommandRow). checked r.dues words >>= (λ _. Ok (r.form words)))) ≡ row_why words (option_map command_form found)
+row_form_why None words = refl
+row_form_why (Some r) words = then_fine (checked r.dues words) _ ∙ checked_why r.dues words
+
+form_why : (line : List ℕ) → result_err (form_of (words_of line)) ≡ row_why (words_of line) (command_row line)
+unfolding form_of word_at
 form_why line =
-    chosen _ (same (word_at line 0) (codes "open")) _ _ _ _ (open_why line)
-    (chosen _ (same (word_at line 0) (codes "close")) _ _ _ _ (close_why line)
-    (chosen _ (same (word_at line 0) (codes "columns")) _ _ _ _ (columns_why line)
-    (chosen _ (same (word_at line 0) (codes "load")) _ _ _ _ (load_why line)
-    (chosen _ (same (word_at line 0) (codes "clone")) _ _ _ _ (clone_why line)
-    (chosen _ (same (word_at line 0) (codes "release")) _ _ _ _ (release_why line)
-    (chosen _ (same (word_at line 0) (codes "show")) _ _ _ _ (show_why line)
-    (chosen _ (same (word_at line 0) (codes "rows")) _ _ _ _ (rows_why line) refl)))))))
+    row_form_why (row_of_command (word_in (words_of line) 0)) (words_of line) ∙ ap (row_why (words_of line)) (sym (find_form commands (word_in (words_of line) 0)))
 
 -- a test of the limit behind a step
 full_by : {A B : Type 0} (r : Result A LineWhy) (full : Bool) (f : A → B)
@@ -286,8 +251,8 @@ full_by (Err w) full f = refl
 command_line_why : (s : Reading) (line : List ℕ) → IsReading s → result_err (command_line s line) ≡ option_or (row_why (words_of line) (command_row line)) (command_why s)
 unfolding command_line command_of
 command_line_why s line good =
-    full_by (form_of line >>= (λ f. Ok (record { line = line; form = f }))) (nat_le 65536 s.command_count) _
-    ∙ (ap (λ (o : Option LineWhy). option_or o (if nat_le 65536 s.command_count then Some why.Many else None)) (then_fine (form_of line) _ ∙ form_why line)
+    full_by (form_of (words_of line) >>= (λ f. Ok (record { line = line; form = f }))) (nat_le 65536 s.command_count) _
+    ∙ (ap (λ (o : Option LineWhy). option_or o (if nat_le 65536 s.command_count then Some why.Many else None)) (then_fine (form_of (words_of line)) _ ∙ form_why line)
     ∙ ap (λ (n : ℕ). option_or (row_why (words_of line) (command_row line)) (if nat_le 65536 n then Some why.Many else None)) good.phased.counted)
 
 -- one more source, and a step behind it that finds no fault

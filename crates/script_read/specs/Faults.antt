@@ -1,5 +1,5 @@
 -- Steps that may find a fault, and what the code answers beside them.
-use Rattle.std.specs.Prelude.{◌≡◌, Result, Ok, Err, ⊤}
+use Rattle.std.specs.Prelude.{◌≡◌, Option, Some, None, Result, Ok, Err, ⊤}
 use Rattle.script_read.specs.declared.fault.LineFault.{LineFault}
 use Rattle.script_read.specs.declared.fault.LineFault.TheVariants as fault
 use Rattle.script_read.specs.declared.fault.LineWhy.{LineWhy}
@@ -9,6 +9,11 @@ infixl 10 ◌>>=◌
 abbrev pub ◌>>=◌ : {A B : Type 0} → Result A LineWhy → (A → Result B LineWhy) → Result B LineWhy
 (Ok x) >>= f = f x
 (Err why) >>= f = Err why
+
+-- nothing, where there is no fault
+abbrev pub unless : Option LineWhy → Result (Unit {0}) LineWhy
+unless None = Ok tt
+unless (Some why) = Err why
 
 -- the answer is what the definition gives; memory may run out anywhere
 abbrev pub Gives : {A : Type 0} → Result A LineFault → Result A LineWhy → Type 0

@@ -8,19 +8,14 @@ use Rattle.script_read.specs.declared.fault.LineWhy.TheVariants as why
 use Rattle.script_read.specs.declared.reading.Section.{Section}
 use Rattle.script_read.specs.declared.reading.Section.TheVariants as section
 use Rattle.script_read.specs.declared.reading.Reading.{Reading}
+use Rattle.script_read.specs.Commands.{CommandRow, commands}
+use Rattle.script_read.specs.Dues.{Due, text, a_name, a_file, a_key, words_why}
 use Rattle.script_read.specs.Later.{comes_later}
 use Rattle.script_read.specs.Lines.{is_passed}
 use Rattle.script_read.specs.Phases.{phase_commands}
 use Rattle.script_read.specs.Script.{phases_so_far}
 use Rattle.script_read.specs.Sections.{has_source, blocks_at, actor_name}
 use Rattle.script_read.specs.Words.{same, words_of, word_at, is_name, is_file_name, key_number}
-
--- what is due at a word: this text, a name, a file name or a key
-pub data Due : Type 0 where
-  text : List ℕ → Due
-  a_name : Due
-  a_file : Due
-  a_key : Due
 
 -- a line: its first word, and the forms that the words behind it may have, each what is due at these words
 abbrev pub Row : Type 0
@@ -34,18 +29,13 @@ one_form word dues = (word, dues ∷ [])
 abbrev pub source_forms : List (List Due)
 source_forms = (a_name ∷ text (codes "inline") ∷ []) ∷ (a_name ∷ text (codes "config") ∷ a_file ∷ []) ∷ []
 
+-- a line of a command
+abbrev pub command_form : CommandRow → Row
+command_form command = one_form command.word command.dues
+
 -- the commands that are built
 abbrev pub command_rows : List Row
-command_rows =
-    one_form (codes "open") []
-    ∷ one_form (codes "close") []
-    ∷ one_form (codes "columns") []
-    ∷ one_form (codes "load") (a_name ∷ text (codes "from") ∷ a_name ∷ [])
-    ∷ one_form (codes "clone") (a_name ∷ text (codes "from") ∷ a_name ∷ [])
-    ∷ one_form (codes "release") (a_name ∷ [])
-    ∷ one_form (codes "show") (a_name ∷ [])
-    ∷ one_form (codes "rows") (a_name ∷ [])
-    ∷ []
+command_rows = map command_form commands
 
 -- the lines that are built, by the section where they are allowed
 abbrev pub rows_in : Section → List Row
@@ -54,42 +44,6 @@ rows_in section.Vertices = one_form (codes "v") (a_key ∷ []) ∷ one_form (cod
 rows_in section.Edges = one_form (codes "e") (a_key ∷ a_key ∷ a_key ∷ []) ∷ one_form (codes "end") [] ∷ []
 rows_in section.Phase = one_form (codes "phase") [] ∷ one_form (codes "actor") (a_name ∷ []) ∷ []
 rows_in section.Actor = one_form (codes "phase") [] ∷ one_form (codes "actor") (a_name ∷ []) ∷ command_rows
-
--- whether so many words stand, with the texts that are due
-abbrev pub fits : List Due → List (List ℕ) → Bool
-fits [] [] = true
-fits [] (word ∷ words) = false
-fits (text t ∷ dues) (word ∷ words) = fits dues words && same word t
-fits (a_name ∷ dues) (word ∷ words) = fits dues words
-fits (a_file ∷ dues) (word ∷ words) = fits dues words
-fits (a_key ∷ dues) (word ∷ words) = fits dues words
-fits (text t ∷ dues) [] = false
-fits (a_name ∷ dues) [] = false
-fits (a_file ∷ dues) [] = false
-fits (a_key ∷ dues) [] = false
-
--- the why of the leftmost word that is not the name, file name or number that is due
-abbrev pub wrong_word : List Due → List (List ℕ) → Option LineWhy
-wrong_word [] words = None
-wrong_word (text t ∷ dues) (word ∷ words) = wrong_word dues words
-wrong_word (a_name ∷ dues) (word ∷ words) = if is_name word then wrong_word dues words else Some why.Name
-wrong_word (a_file ∷ dues) (word ∷ words) = if is_file_name word then wrong_word dues words else Some why.Name
-wrong_word (a_key ∷ dues) (word ∷ words) = if is_some (key_number word) then wrong_word dues words else Some why.Number
-wrong_word (text t ∷ dues) [] = None
-wrong_word (a_name ∷ dues) [] = None
-wrong_word (a_file ∷ dues) [] = None
-wrong_word (a_key ∷ dues) [] = None
-
--- the why of the words behind the first, where they may have these forms: `form` where they have none of them, else that of
--- the form that they have
-abbrev pub forms_why : List (List Due) → List (List ℕ) → Option LineWhy
-forms_why [] words = Some why.Form
-forms_why (dues ∷ forms) words = if fits dues words then wrong_word dues words else forms_why forms words
-
--- the why of a line's words, where the words behind the first may have these forms
-abbrev pub words_why : List (List Due) → List (List ℕ) → Option LineWhy
-words_why forms [] = Some why.Form
-words_why forms (word ∷ words) = forms_why forms words
 
 -- the why of a line's words, where the line is this row, or no row begins with its first word
 abbrev pub row_why : List (List ℕ) → Option Row → Option LineWhy

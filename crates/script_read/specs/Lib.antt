@@ -1,5 +1,6 @@
 pub mod Faults
 pub mod Words
+pub mod Dues
 pub mod Commands
 pub mod Later
 pub mod Phases

@@ -23,8 +23,12 @@ unfoldable pub word_count : List ℕ → ℕ
 word_count line = length (words_of line)
 
 -- the word at a place, from 0, and the empty word past the end
+abbrev pub word_in : List (List ℕ) → ℕ → List ℕ
+word_in words place = unwrap_or (slice_get words place) []
+
+-- the same of the words of a line
 unfoldable pub word_at : List ℕ → ℕ → List ℕ
-word_at line place = unwrap_or (slice_get (words_of line) place) []
+word_at line place = word_in (words_of line) place
 
 -- whether a text is one of the words of a line
 unfoldable pub has_word : List ℕ → List ℕ → Bool
@@ -92,12 +96,3 @@ alone line = if not (word_count line == 1) then Err why.Form else Ok tt
 -- the name of `WORD NAME`
 unfoldable pub one_name : List ℕ → Result (List ℕ) LineWhy
 one_name line = if not (word_count line == 2) then Err why.Form else name (word_at line 1)
-
--- the names of `WORD NAME LINK NAME`
-unfoldable pub two_names : List ℕ → List ℕ → Result (List ℕ × List ℕ) LineWhy
-two_names line link =
-    if not ((word_count line == 4) && same (word_at line 2) link) then Err why.Form
-    else (do
-      first ← name (word_at line 1)
-      second ← name (word_at line 3)
-      Ok (first, second))

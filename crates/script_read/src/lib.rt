@@ -32,6 +32,7 @@
 //! in `proofs/Forms.antt` and `proofs/Whys.antt`.
 #![tactic(auto)]
 
+mod args;
 mod command;
 mod fault;
 mod later;

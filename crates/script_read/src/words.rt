@@ -2,7 +2,7 @@
 ghost use Rattle.std.specs.Prelude.{◌≡◌};
 ghost use Rattle.std.specs.List.{list_all};
 ghost use Rattle.script_read.specs.Faults.{Gives, GivesSurely};
-ghost use Rattle.script_read.specs.Words.{word_count, word_at, has_word, is_letter, is_digit, is_name_byte, is_name, name, is_file_byte, is_file_name, file_name, is_decimal, is_key, key_number, key, alone, one_name, two_names};
+ghost use Rattle.script_read.specs.Words.{word_count, word_at, has_word, is_letter, is_digit, is_name_byte, is_name, name, is_file_byte, is_file_name, file_name, is_decimal, is_key, key_number, key, alone, one_name};
 
 use crate::fault::{LineFault, LineWhy};
 use column_types::Text;
@@ -56,7 +56,8 @@ fn are_name_bytes(bytes: &[u8]) -> bool
     bytes.iter().all(|c| is_name_byte(*c))
 }
 
-fn is_name(bytes: &[u8]) -> bool
+/// Whether bytes are a name.
+pub fn is_name(bytes: &[u8]) -> bool
     ensures { result ≡ is_name bytes.now }
 {
     match bytes {
@@ -171,17 +172,4 @@ pub fn read_one_name(alloc: Global, line: &str) -> Result<Text, LineFault>
         return Err(LineFault::Bad(LineWhy::Form));
     }
     read_name(alloc, nth_word(line, 1))
-}
-
-/// The names of a line `WORD NAME LINK NAME`.
-#[tactic(auto, unfolding(crate::specs::Words::two_names))]
-pub fn read_two_names(alloc: Global, line: &str, link: &str) -> Result<(Text, Text), LineFault>
-    ensures { Gives result (two_names line.now link.now) }
-{
-    if !(count_words(line) == 4 && nth_word(line, 2) == link) {
-        return Err(LineFault::Bad(LineWhy::Form));
-    }
-    let first = read_name(alloc, nth_word(line, 1))?;
-    let second = read_name(alloc, nth_word(line, 3))?;
-    Ok((first, second))
 }

@@ -1,0 +1,79 @@
+//! What is due at the words behind the first of a line, and whether a line has it.
+ghost use Rattle.std.specs.Prelude.{◌≡◌, ◌∷◌, [], map, true};
+ghost use Rattle.script_read.specs.Commands.{checked};
+ghost use Rattle.script_read.specs.Dues.{due_of, fits, wrong_word, has_form, wrong_behind};
+ghost use Rattle.script_read.specs.Faults.{GivesSurely};
+ghost use Rattle.script_read.specs.Words.{words_of};
+
+use crate::fault::{LineFault, LineWhy};
+use crate::words::{count_words, is_name, nth_word};
+
+/// What is due at a word behind the first of a line.
+#[derive(Clone, Copy)]
+pub enum Arg {
+    /// A name.
+    Name,
+    /// This word.
+    Word(&'static str),
+}
+
+/// Whether a word may stand where this is due: it is the fixed word, where one is due.
+fn may_stand(arg: Arg, word: &str) -> bool
+    ensures { result ≡ fits (due_of arg ∷ []) (word.now ∷ []) }
+{
+    match arg {
+        Arg::Name => true,
+        Arg::Word(fixed) => word == fixed,
+    }
+}
+
+/// Why a word is wrong that may stand where this is due, if it is.
+fn word_why(arg: Arg, word: &str) -> Option<LineWhy>
+    ensures { result ≡ wrong_word (due_of arg ∷ []) (word.now ∷ []) }
+{
+    match arg {
+        Arg::Name if !is_name(word.as_bytes()) => Some(LineWhy::Name),
+        Arg::Name | Arg::Word(_) => None,
+    }
+}
+
+/// Whether as many words stand behind the first as are due, with the fixed ones.
+fn has_form(args: &[Arg], line: &str) -> bool
+    ensures { result ≡ has_form (map due_of args.now) (words_of line.now) }
+{
+    let count = count_words(line);
+    for (i, arg) in args.iter().enumerate() {
+        if i + 1 >= count || !may_stand(*arg, nth_word(line, i + 1)) {
+            return false;
+        }
+    }
+    count == args.len() + 1
+}
+
+/// Why the leftmost wrong word is wrong, in a line that has the form.
+fn wrong_word(args: &[Arg], line: &str) -> Option<LineWhy>
+    requires { has_form (map due_of args.now) (words_of line.now) ≡ true }
+    ensures { result ≡ wrong_behind (map due_of args.now) (words_of line.now) }
+{
+    for (i, arg) in args.iter().enumerate() {
+        let why = word_why(*arg, nth_word(line, i + 1));
+        if why.is_some() {
+            return why;
+        }
+    }
+    None
+}
+
+/// Nothing, where the words behind a line's first are what is due.
+#[tactic(auto, using(crate::proofs::DueWords::checks), unfolding(crate::specs::Commands::checked))]
+pub fn check_words(args: &[Arg], line: &str) -> Result<(), LineFault>
+    ensures { GivesSurely result (checked (map due_of args.now) (words_of line.now)) }
+{
+    if !has_form(args, line) {
+        return Err(LineFault::Bad(LineWhy::Form));
+    }
+    match wrong_word(args, line) {
+        Some(why) => Err(LineFault::Bad(why)),
+        None => Ok(()),
+    }
+}
