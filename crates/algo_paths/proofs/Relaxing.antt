@@ -1,23 +1,16 @@
 -- offers, relaxed vertices and waves
-use Rattle.std.proofs.Common.{◌≡◌, ◌≢◌, ℕ, zero, suc, ◌+◌, ◌-◌, ◌*◌, ◌<◌, ◌≤◌, ◌^◌, ◌⊎◌, inl, inr, List, [], ◌∷◌, ◌++◌, length, drop, set, slice_index, refl, ap, sym, ◌∙◌, subst, arith, get_or-set_same, get_or-set_other}
+use Rattle.std.proofs.Common.{◌≡◌, ◌≢◌, ℕ, zero, suc, ◌+◌, ◌*◌, ◌<◌, ◌≤◌, ◌⊎◌, inl, inr, List, [], ◌∷◌, ◌++◌, length, drop, set, slice_index, refl, ap, sym, ◌∙◌, subst, arith, get_or-set_same, get_or-set_other}
 use Rattle.std.specs.Prelude.{Contains, sum}
-use Rattle.std.specs.List.Sorted.{IsPermutation}
 use Rattle.std.proofs.lemmas.Bool.{cases_eq, cases_lt}
 use Rattle.std.proofs.lemmas.List.{length-set, get_or_past}
 use Rattle.std.proofs.lemmas.List.Sums.{sum_by-cons, sum_by-set, sum_by-append}
-use Rattle.std.proofs.lemmas.List.Sorted.{Contains-permutation, IsPermutation-sym, length_permutation}
 use Rattle.std.proofs.Math.Seq.{drop-cons}
 use Rattle.algo_digraph.specs.Digraph.{Digraph, Goes, IsClosed}
 use Rattle.algo_digraph.specs.Walks.{IsWalk, weight_of}
-use Rattle.algo_paths.specs.Search.{entry_of, IsRelaxed, IsCovered, ComesFrom, IsProgress, IsRelaxing, IsOffer, IsNextBest}
+use Rattle.algo_paths.specs.Queue.{entry_of, IsPut}
+use Rattle.algo_paths.specs.Search.{IsRelaxed, IsCovered, ComesFrom, IsProgress, IsRelaxing, IsOffer, IsNextBest}
 
 -- ---- lists with one item before the others
-
-pub here : {X : Type 0} (x : X) (xs : List X) → Contains (x ∷ xs) x
-here x xs = (0, omega arith, refl)
-
-pub there : {X : Type 0} (y x : X) (xs : List X) → Contains xs x → Contains (y ∷ xs) x
-there y x xs h = (suc h.0, omega (arith, h.1), h.2)
 
 pub here_or_there : {X : Type 0} (y x : X) (xs : List X) → Contains (y ∷ xs) x → (y ≡ x) ⊎ Contains xs x
 here_or_there y x xs (zero, lt, at) = inl at
@@ -37,7 +30,7 @@ offer_refused w weight best queue le = record {
 }
 
 module _ (w weight : ℕ) (best : List ℕ) (before after : List (ℕ × ℕ)) (lt : w < length best) (less : weight < slice_index best w)
-    (put : IsPermutation ((2 ^ 63 - weight, w) ∷ before) after) where
+    (put : IsPut (weight, w) before after) where
   at_w : slice_index (set best w weight) w ≡ weight
   at_w = get_or-set_same best w weight 0 lt
 
@@ -46,8 +39,8 @@ module _ (w weight : ℕ) (best : List ℕ) (before after : List (ℕ × ℕ)) (
 
   entry : Contains after (entry_of (set best w weight) w)
   entry =
-      let same : entry_of (set best w weight) w ≡ (2 ^ 63 - weight, w) = ap (λ b. (2 ^ 63 - b, w)) at_w in
-      subst (Contains after) (sym same) (Contains-permutation ((2 ^ 63 - weight, w) ∷ before) after (2 ^ 63 - weight, w) put (here (2 ^ 63 - weight, w) before))
+      let same : entry_of (set best w weight) w ≡ (weight, w) = ap (λ b. (b, w)) at_w in
+      subst (Contains after) (sym same) put.put
 
   lower_at : (u : ℕ) → slice_index (set best w weight) u ≤ slice_index best u
   lower_at u =
@@ -71,13 +64,13 @@ module _ (w weight : ℕ) (best : List ℕ) (before after : List (ℕ × ℕ)) (
     lower = lower_at;
     taken = omega (arith, at_w);
     better = better_at;
-    stays = λ x h. Contains-permutation ((2 ^ 63 - weight, w) ∷ before) after x put (there (2 ^ 63 - weight, w) x before h);
+    stays = put.stays;
     queued = λ x h.
-        elim (here_or_there (2 ^ 63 - weight, w) x before (Contains-permutation after ((2 ^ 63 - weight, w) ∷ before) x (IsPermutation-sym ((2 ^ 63 - weight, w) ∷ before) after put) h)) [
-          | inl e ↦ inr (sym (ap (λ (y : ℕ × ℕ). y.1) e))
-          | inr old ↦ inl old
+        elim (put.queued x h) [
+          | inl old ↦ inl old
+          | inr e ↦ inr (ap (λ (y : ℕ × ℕ). y.1) e)
         ];
-    work = omega (arith, length_permutation ((2 ^ 63 - weight, w) ∷ before) after put, sum_by-set (λ x. x) best w weight 0 lt, less);
+    work = omega (arith, put.long, sum_by-set (λ x. x) best w weight 0 lt, less);
   }
 
 -- ---- a vertex that is relaxed, edge by edge
@@ -101,7 +94,7 @@ module _ (g : Digraph) (weights : List ℕ) (v e w weight : ℕ) (old mid new : 
   better_one u (inr now) was = inr (now.0, (e, subst (λ x. Goes g e v x) (sym now.1) goes, now.2 ∙ is))
   better_one u (inl same) (inl still) = inl (same ∙ still)
   better_one u (inl same) (inr got) =
-      let entry = subst (λ b. Contains after (2 ^ 63 - b, u)) (sym same) (one.stays (entry_of mid u) got.0) in
+      let entry = subst (λ b. Contains after (b, u)) (sym same) (one.stays (entry_of mid u) got.0) in
       inr (entry, (got.1.0, got.1.1, same ∙ got.1.2))
 
   pub relaxing_more : IsRelaxing g weights v old new before after
@@ -179,7 +172,7 @@ module _ (g : Digraph) (closed : IsClosed g) (weights : List ℕ) (v : ℕ) (res
   own_stays (inr got) = omega (arith, got.1.2, one.lower v)
 
   waits : (u : ℕ) → slice_index new u ≡ slice_index old u → IsCovered g weights old before (v ∷ rest) u → IsCovered g weights new after rest u
-  waits u same (inl (inl entry)) = inl (inl (subst (λ b. Contains after (2 ^ 63 - b, u)) (sym same) (one.stays (entry_of old u) entry)))
+  waits u same (inl (inl entry)) = inl (inl (subst (λ b. Contains after (b, u)) (sym same) (one.stays (entry_of old u) entry)))
   waits u same (inl (inr wave)) =
       elim (here_or_there v u rest wave) [
         | inl e ↦ inr (subst (IsRelaxed g weights new) e (λ d w h. omega (arith, done d w h, own_stays (one.better v))))

@@ -1,15 +1,14 @@
 -- the search as a whole
-use Rattle.std.proofs.Common.{◌≡◌, ◌≢◌, ℕ, ◌+◌, ◌-◌, ◌<◌, ◌≤◌, ◌^◌, ◌⊎◌, inl, inr, List, [], ◌∷◌, ◌++◌, Option, Some, None, ℤ, length, set, replicate, slice_index, refl, ap, sym, ◌∙◌, subst, arith, get_or-set_same, get_or-set_other}
+use Rattle.std.proofs.Common.{◌≡◌, ◌≢◌, ℕ, ◌+◌, ◌<◌, ◌≤◌, ◌^◌, inl, inr, List, [], ◌∷◌, ◌++◌, Option, Some, None, ℤ, length, set, replicate, slice_index, refl, ap, sym, ◌∙◌, subst, arith, get_or-set_same, get_or-set_other}
 use Rattle.std.specs.Prelude.{Contains}
 use Rattle.std.proofs.lemmas.Bool.{cases_eq, cases_lt}
 use Rattle.std.proofs.lemmas.List.{length-set, length-replicate, get_or-replicate, get_or_past}
 use Rattle.std.proofs.lemmas.List.Sums.{sum_by-cons}
-use Rattle.std.specs.List.Sorted.{IsPermutation}
-use Rattle.std.proofs.lemmas.List.Sorted.{Contains-permutation, IsPermutation-sym}
 use Rattle.algo_digraph.specs.Digraph.{Digraph, Goes, IsClosed}
 use Rattle.algo_digraph.specs.Walks.{IsWalk, IsLeastWeight, weight_of}
-use Rattle.algo_paths.specs.Search.{entry_of, IsRelaxed, IsCovered, IsProgress, IsSearch, IsTold}
-use Rattle.algo_paths.proofs.Relaxing.{here, here_or_there, walk_then, weight_then}
+use Rattle.algo_paths.specs.Queue.{entry_of, IsPut, IsWave}
+use Rattle.algo_paths.specs.Search.{IsRelaxed, IsCovered, IsProgress, IsSearch, IsTold}
+use Rattle.algo_paths.proofs.Relaxing.{walk_then, weight_then}
 
 -- ---- the start
 
@@ -44,12 +43,9 @@ module _ (g : Digraph) (weights : List ℕ) (from : ℕ) (lt : from < g.vertices
         | inr ne ↦ absurd (omega (arith, small, far g.vertices from lt v ne inside))
       ]
 
-  entry_first : (x : ℕ × ℕ) → x ≡ (2 ^ 63, from) → Contains ((2 ^ 63, from) ∷ []) x
-  entry_first x e = subst (Contains ((2 ^ 63, from) ∷ [])) (sym e) (here (2 ^ 63, from) [])
-
-  pub first_search : (best : List ℕ) → best ≡ set (replicate g.vertices (2 ^ 63)) from 0 → IsSearch g weights from best ((2 ^ 63, from) ∷ [])
-  first_search best is =
-      subst (λ b. IsSearch g weights from b ((2 ^ 63, from) ∷ [])) (sym is)
+  pub first_search : (best : List ℕ) (queue : List (ℕ × ℕ)) → best ≡ set (replicate g.vertices (2 ^ 63)) from 0 → IsPut (0, from) [] queue → IsSearch g weights from best queue
+  first_search best queue is put =
+      subst (λ b. IsSearch g weights from b queue) (sym is)
       (record {
         long = first_len g.vertices from lt;
         low = first_low g.vertices from lt;
@@ -57,40 +53,23 @@ module _ (g : Digraph) (weights : List ℕ) (from : ℕ) (lt : from < g.vertices
         walks = λ v inside small. let e = is_from v inside small in
             ([], sym e, sym (ap (slice_index (set (replicate g.vertices (2 ^ 63)) from 0)) e ∙ at_from g.vertices from lt));
         queued = λ x h.
-            elim (here_or_there (2 ^ 63, from) x [] h) [
-              | inl e ↦ subst (λ y. y < g.vertices) (ap (λ (p : ℕ × ℕ). p.1) e) lt
-              | inr none ↦ absurd (omega (arith, none.1))
+            elim (put.queued x h) [
+              | inl none ↦ absurd (omega (arith, none.1))
+              | inr e ↦ subst (λ y. y < g.vertices) (sym (ap (λ (p : ℕ × ℕ). p.1) e)) lt
             ];
         covered = λ v inside small. let e = is_from v inside small in
-            inl (inl (entry_first (entry_of (set (replicate g.vertices (2 ^ 63)) from 0) v)
-            (ap (λ x. entry_of (set (replicate g.vertices (2 ^ 63)) from 0) x) e ∙ ap (λ b. (2 ^ 63 - b, from)) (at_from g.vertices from lt))));
+            let entry : entry_of (set (replicate g.vertices (2 ^ 63)) from 0) v ≡ (0, from) = ap (λ x. entry_of (set (replicate g.vertices (2 ^ 63)) from 0) x) e ∙ ap (λ b. (b, from)) (at_from g.vertices from lt) in
+            inl (inl (subst (Contains queue) (sym entry) put.put));
       })
-
--- the order of the queue does not matter
-reordered : (g : Digraph) (weights best : List ℕ) (queue other : List (ℕ × ℕ)) (v : ℕ) → IsPermutation queue other → IsCovered g weights best queue [] v → IsCovered g weights best other [] v
-reordered g weights best queue other v p (inl (inl entry)) = inl (inl (Contains-permutation queue other (entry_of best v) p entry))
-reordered g weights best queue other v p (inl (inr none)) = absurd (omega (arith, none.1))
-reordered g weights best queue other v p (inr done) = inr done
-
-pub search_reordered : (g : Digraph) (weights : List ℕ) (from : ℕ) (best : List ℕ) (queue other : List (ℕ × ℕ)) → IsPermutation queue other → IsSearch g weights from best queue → IsSearch g weights from best other
-search_reordered g weights from best queue other p s = record {
-  long = s.long;
-  low = s.low;
-  start = s.start;
-  walks = s.walks;
-  queued = λ x h. s.queued x (Contains-permutation other queue x (IsPermutation-sym queue other p) h);
-  covered = λ v lt small. reordered g weights best queue other v p (s.covered v lt small);
-}
 
 -- ---- one wave
 
 module _ (g : Digraph) (weights : List ℕ) (from : ℕ) (best new wave : List ℕ) (queue before after : List (ℕ × ℕ))
     (search : IsSearch g weights from best queue) (start_in : from < g.vertices)
-    (kept : (x : ℕ × ℕ) → Contains queue x → x ≡ entry_of best x.1 → Contains before x ⊎ Contains wave x.1)
-    (left : (x : ℕ × ℕ) → Contains before x → Contains queue x)
+    (taken : IsWave best queue before wave)
     (progress : IsProgress g weights wave [] best new before after) where
   waiting : (v : ℕ) → IsCovered g weights best queue [] v → IsCovered g weights best before wave v
-  waiting v (inl (inl entry)) = inl (kept (entry_of best v) entry refl)
+  waiting v (inl (inl entry)) = inl (taken.kept (entry_of best v) entry refl)
   waiting v (inl (inr none)) = absurd (omega (arith, none.1))
   waiting v (inr relaxed) = inr relaxed
 
@@ -115,7 +94,7 @@ module _ (g : Digraph) (weights : List ℕ) (from : ℕ) (best new wave : List �
     walks = λ v lt small. walk_on v lt small starts;
     queued = λ x h.
         elim (progress.queued x h) [
-          | inl early ↦ search.queued x (left x early)
+          | inl early ↦ search.queued x (taken.left x early)
           | inr inside ↦ inside
         ];
     covered = covered_on;
@@ -149,7 +128,3 @@ module _ (g : Digraph) (closed : IsClosed g) (weights : List ℕ) (from : ℕ) (
   pub least_told : (v : ℕ) (r : Option ℤ) → v < g.vertices → IsTold (slice_index best v) r → IsLeastWeight g weights from v r
   least_told v r lt t =
       told_at v (slice_index best v) r t (search.walks v lt) (λ es w. omega (arith, along from v es start_in w, search.start))
-
-pub no_items : {X : Type 0} (xs : List X) → length xs ≡ 0 → xs ≡ []
-no_items [] h = refl
-no_items (x ∷ xs) h = absurd (omega (arith, h))

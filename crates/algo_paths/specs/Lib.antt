@@ -1,3 +1,4 @@
+pub mod Queue
 pub mod Search
 pub mod Weights
 pub mod Answer

@@ -1,12 +1,9 @@
 -- A search for least weights. No public contract names these words.
-use Rattle.std.specs.Prelude.{◌≡◌, ◌⊎◌, ℕ, ◌+◌, ◌-◌, ◌*◌, ◌<◌, ◌≤◌, ◌^◌, ℤ, pos, List, [], Option, Contains, length, slice_index, sum}
+use Rattle.std.specs.Prelude.{◌≡◌, ◌⊎◌, ℕ, ◌+◌, ◌*◌, ◌<◌, ◌≤◌, ◌^◌, ℤ, pos, List, [], Option, Contains, length, slice_index, sum}
 use Rattle.std.specs.Option.{MatchOption}
 use Rattle.algo_digraph.specs.Digraph.{Digraph, Goes}
 use Rattle.algo_digraph.specs.Walks.{IsWalk, weight_of}
-
--- the queue's entry for a vertex: the nearer it is, the greater its first number
-abbrev pub entry_of : List ℕ → ℕ → ℕ × ℕ
-entry_of best v = (2 ^ 63 - slice_index best v, v)
+use Rattle.algo_paths.specs.Queue.{entry_of}
 
 -- no edge from v makes anything better
 abbrev pub IsRelaxed : Digraph → List ℕ → List ℕ → ℕ → Type 0

@@ -1,14 +1,13 @@
 //! Relaxing all edges by one round over all vertices.
-ghost use Rattle.std.specs.Prelude.{◌≡◌, ◌⊎◌, ℕ, ◌+◌, ◌*◌, ◌<◌, ◌≤◌, ◌^◌, ◌-◌, IfOk, OnOk, List as Items, All, Contains, [], length, sum, slice_index};
-ghost use Rattle.std.specs.BinaryHeap.{heap_items};
-ghost use Rattle.algo_paths.specs.Search.{entry_of, IsProgress, IsNextBest};
+ghost use Rattle.std.specs.Prelude.{◌≡◌, ◌⊎◌, ℕ, ◌+◌, ◌*◌, ◌<◌, ◌≤◌, ◌^◌, IfOk, OnOk, List as Items, All, Contains, [], length, sum, slice_index};
+ghost use Rattle.algo_paths.specs.Queue.{entry_of};
+ghost use Rattle.algo_paths.specs.Search.{IsProgress, IsNextBest};
 
-use crate::queue::enqueue;
+use crate::queue::Queue;
 use algo_digraph::FlatDigraph;
 use column_types::{List, NoMemory};
 use par_rounds::round;
 use std::alloc::Global;
-use std::collections::BinaryHeap;
 use std::thread::Threads;
 
 /// Relaxes all vertices, so those of any wave.
@@ -18,7 +17,7 @@ pub(crate) fn wide_wave<R: Threads + Sync>(
     digraph: &FlatDigraph<'_>,
     weights: &[u64],
     best: &mut List<u64>,
-    queue: &mut BinaryHeap<(u64, u32)>,
+    queue: &mut Queue,
     workers: u32,
 ) -> Result<(), NoMemory>
     requires weights { length weights.now ≡ length digraph.now.edges }
@@ -26,7 +25,7 @@ pub(crate) fn wide_wave<R: Threads + Sync>(
     requires long { length best.old ≡ digraph.now.vertices }
     requires low { (v : ℕ) → slice_index best.old v ≤ 2 ^ 63 }
     requires workers { (1 ≤ workers) × (workers ≤ 64) }
-    ensures { OnOk result ((wave : Items ℕ) → IsProgress digraph.now weights.now wave [] best.old best.new (heap_items queue.old) (heap_items queue.new)) }
+    ensures { OnOk result ((wave : Items ℕ) → IsProgress digraph.now weights.now wave [] best.old best.new queue.old queue.new) }
 {
     let next = weight_round(rt, alloc, digraph, weights, best.as_slice(), workers)?;
     queue_better(
@@ -40,19 +39,13 @@ pub(crate) fn wide_wave<R: Threads + Sync>(
 }
 
 /// Queues the vertices that have a better weight than before.
-fn queue_better(
-    queue: &mut BinaryHeap<(u64, u32)>,
-    n: u32,
-    old: &[u64],
-    new: &[u64],
-) -> Result<(), NoMemory>
+fn queue_better(queue: &mut Queue, n: u32, old: &[u64], new: &[u64]) -> Result<(), NoMemory>
     requires old { length old.now ≡ n }
     requires new { length new.now ≡ n }
-    requires low { (v : ℕ) → slice_index new.now v ≤ 2 ^ 63 }
     requires lower { (v : ℕ) → slice_index new.now v ≤ slice_index old.now v }
-    ensures better { OnOk result ((v : ℕ) → slice_index new.now v < slice_index old.now v → Contains (heap_items queue.new) (entry_of new.now v)) }
-    ensures queued { OnOk result ((x : ℕ × ℕ) → Contains (heap_items queue.new) x → Contains (heap_items queue.old) x ⊎ (x.1 < n)) }
-    ensures work { OnOk result (2 * sum new.now + length (heap_items queue.new) ≤ 2 * sum old.now + length (heap_items queue.old)) }
+    ensures better { OnOk result ((v : ℕ) → slice_index new.now v < slice_index old.now v → Contains queue.new (entry_of new.now v)) }
+    ensures queued { OnOk result ((x : ℕ × ℕ) → Contains queue.new x → Contains queue.old x ⊎ (x.1 < n)) }
+    ensures work { OnOk result (2 * sum new.now + length queue.new ≤ 2 * sum old.now + length queue.old) }
 {
     for v in 0..n {
         queue_one(queue, v, old[v as usize], new[v as usize])?;
@@ -61,18 +54,17 @@ fn queue_better(
 }
 
 /// Queues a vertex, where its weight is better than before.
-fn queue_one(queue: &mut BinaryHeap<(u64, u32)>, v: u32, old: u64, new: u64) -> Result<(), NoMemory>
-    requires low { new ≤ 2 ^ 63 }
-    requires lower { new ≤ old }
-    ensures better { OnOk result (new < old → Contains (heap_items queue.new) (2 ^ 63 - new, v)) }
-    ensures stays { OnOk result ((x : ℕ × ℕ) → Contains (heap_items queue.old) x → Contains (heap_items queue.new) x) }
-    ensures queued { OnOk result ((x : ℕ × ℕ) → Contains (heap_items queue.new) x → Contains (heap_items queue.old) x ⊎ (x.1 ≡ v)) }
-    ensures work { OnOk result (2 * new + length (heap_items queue.new) ≤ 2 * old + length (heap_items queue.old)) }
+fn queue_one(queue: &mut Queue, v: u32, old: u64, new: u64) -> Result<(), NoMemory>
+    requires { new ≤ old }
+    ensures better { OnOk result (new < old → Contains queue.new (new, v)) }
+    ensures stays { OnOk result ((x : ℕ × ℕ) → Contains queue.old x → Contains queue.new x) }
+    ensures queued { OnOk result ((x : ℕ × ℕ) → Contains queue.new x → Contains queue.old x ⊎ (x.1 ≡ v)) }
+    ensures work { OnOk result (2 * new + length queue.new ≤ 2 * old + length queue.old) }
 {
     if old <= new {
         return Ok(());
     }
-    enqueue(queue, v, new)?;
+    queue.push(v, new)?;
     Ok(())
 }
 

@@ -1,20 +1,18 @@
 //! Least weights over a digraph.
 ghost use Rattle.std.specs.Prelude.{◌≡◌, ℕ, ◌+◌, ◌*◌, ◌<◌, ◌≤◌, ◌^◌, IfOk, OnOk, All, Contains, None, [], length, slice_index, slice_index_or, replicate};
-ghost use Rattle.std.specs.BinaryHeap.{heap_items};
 ghost use Rattle.algo_digraph.specs.Walks.{IsLeastWeight};
 ghost use Rattle.algo_paths.specs.Search.{IsProgress, IsTold};
 
-use crate::queue::{enqueue, next_wave};
+use crate::queue::Queue;
 use crate::relax::narrow_wave;
 use crate::round::wide_wave;
 use algo_digraph::{FlatDigraph, is_wide};
 use column_types::{List, NoMemory};
 use std::alloc::Global;
-use std::collections::BinaryHeap;
 use std::thread::Threads;
 
 /// Above each weight that is told.
-pub(crate) const FAR: u64 = 9_223_372_036_854_775_808;
+const FAR: u64 = 9_223_372_036_854_775_808;
 
 /// For each vertex the least weight of a walk to it from the vertex `from`, where one is below 2 ^ 63. The weights are those of the edges, in order.
 pub(crate) fn digraph_least_weights<R: Threads + Sync>(
@@ -35,10 +33,9 @@ pub(crate) fn digraph_least_weights<R: Threads + Sync>(
 {
     let mut best = no_weights(alloc, digraph.vertex_count())?;
     best.set(from as usize, 0);
-    let mut queue = BinaryHeap::with_capacity(alloc, digraph.vertex_count() as usize)?;
-    enqueue(&mut queue, from, 0)?;
-    'waves: while !queue.is_empty() {
-        let wave = next_wave(alloc, &mut queue, best.as_slice())?;
+    let mut queue = Queue::new(alloc)?;
+    queue.push(from, 0)?;
+    'waves: while let Some(wave) = queue.next_wave(alloc, best.as_slice())? {
         relax_wave(
             rt,
             alloc,
@@ -69,7 +66,7 @@ fn relax_wave<R: Threads + Sync>(
     digraph: &FlatDigraph<'_>,
     weights: &[u64],
     best: &mut List<u64>,
-    queue: &mut BinaryHeap<(u64, u32)>,
+    queue: &mut Queue,
     wave: &[u32],
     workers: u32,
 ) -> Result<(), NoMemory>
@@ -79,7 +76,7 @@ fn relax_wave<R: Threads + Sync>(
     requires low { (v : ℕ) → slice_index best.old v ≤ 2 ^ 63 }
     requires wave { (v : ℕ) → Contains wave.now v → v < digraph.now.vertices }
     requires workers { (1 ≤ workers) × (workers ≤ 64) }
-    ensures { OnOk result (IsProgress digraph.now weights.now wave.now [] best.old best.new (heap_items queue.old) (heap_items queue.new)) }
+    ensures { OnOk result (IsProgress digraph.now weights.now wave.now [] best.old best.new queue.old queue.new) }
 {
     if is_wide(workers, wave.len(), digraph.vertex_count()) {
         return wide_wave(rt, alloc, digraph, weights, best, queue, workers);

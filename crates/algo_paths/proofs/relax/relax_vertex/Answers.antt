@@ -1,5 +1,4 @@
 use Rattle.std.proofs.Common.{◌+◌, ◌≤◌, ◌<◌, ◌∙◌, ap, arith, slice_index, length}
-use Rattle.std.specs.BinaryHeap.{heap_items}
 use Rattle.std.proofs.lemmas.List.Elements.{All-push, All-weaker}
 use Rattle.algo_digraph.specs.declared.arcs.Arc.{Arc}
 use Rattle.algo_digraph.specs.Digraph.{Goes}
@@ -14,8 +13,8 @@ bounds-weights-arc c =
     let within = arc_turn (λ (a : Arc). a.edge < length c.args.digraph.now.edges) _ _ _ _ _ _ c.into_iter-arc-iterator.ensures.into_iter_gives c.loop-arc.yielded_by c.in-Some.ensures.steps c.out_arcs-arc-items.ensures.edges in
     omega (arith, within, c.requires.weights)
 
-pub offer-requires-clause-within : goal.offer-requires-clause-within
-offer-requires-clause-within c =
+pub offer-requires : goal.offer-requires
+offer-requires c =
     let within = arc_turn (λ (a : Arc). a.vertex < c.args.digraph.now.vertices) _ _ _ _ _ _ c.into_iter-arc-iterator.ensures.into_iter_gives c.loop-arc.yielded_by c.in-Some.ensures.steps c.out_arcs-arc-items.ensures.ends in
     omega (arith, within, c.requires.long, c.loop-arc.invariant.relaxing.long)
 
@@ -31,7 +30,7 @@ loop-arc-preserved c =
     let one = c.in_ok-offer.ensures in
     let own = ap (λ xs. slice_index xs v + slice_index weights a.edge) c.as_slice.ensures in
     record {
-      relaxing = relaxing_more g weights v a.edge a.vertex _ old c.loop-arc.best c.offer.new.best (heap_items c.args.queue.now) (heap_items c.loop-arc.queue) (heap_items c.offer.new.queue) inv.relaxing one goes c.sound.ensures own;
+      relaxing = relaxing_more g weights v a.edge a.vertex _ old c.loop-arc.best c.offer.new.best c.args.queue.now c.loop-arc.queue c.offer.new.queue inv.relaxing one goes c.sound.ensures own;
       sofar = All-push (λ (b : Arc). slice_index c.offer.new.best b.vertex ≤ slice_index c.as_slice.result.now v + slice_index weights b.edge) c.loop-arc.yielded a
           (All-weaker (λ (b : Arc). slice_index c.loop-arc.best b.vertex ≤ slice_index c.as_slice.result.now v + slice_index weights b.edge) (λ (b : Arc). slice_index c.offer.new.best b.vertex ≤ slice_index c.as_slice.result.now v + slice_index weights b.edge)
           (λ b h. omega (arith, h, one.lower b.vertex)) c.loop-arc.yielded inv.sofar)

@@ -1,6 +1,6 @@
 use Rattle.std.proofs.Common.{inl, inr, sym, subst, arith, below_more, ◌<◌}
 use Rattle.std.proofs.lemmas.List.Sums.{sum_by_more}
-use Rattle.algo_paths.specs.Search.{entry_of}
+use Rattle.algo_paths.specs.Queue.{entry_of}
 use Rattle.algo_paths.proofs.round.queue_better.Goals as goal
 
 pub loop-v-preserved : goal.loop-v-preserved

@@ -1,4 +1,3 @@
-use Rattle.std.specs.BinaryHeap.{heap_items}
 use Rattle.algo_paths.proofs.Relaxing.{progress_round}
 use Rattle.algo_paths.proofs.round.wide_wave.Goals as goal
 
@@ -9,5 +8,5 @@ returns g c = λ wave.
     let better = rw (c.as_slice-2.ensures, c.as_slice-3.ensures) at q.better in
     let queued = rw c.vertex_count.ensures.count at q.queued in
     let work = rw (c.as_slice-2.ensures, c.as_slice-3.ensures) at q.work in
-    progress_round c.args.digraph.now c.args.weights.now wave c.args.best.now c.in_ok-next.next (heap_items c.args.queue.now) (heap_items c.queue_better.new.queue)
+    progress_round c.args.digraph.now c.args.weights.now wave c.args.best.now c.in_ok-next.next c.args.queue.now c.queue_better.new.queue
     c.requires.long c.in_ok-next.ensures.len each c.vertex_count.ensures.closed better queued work

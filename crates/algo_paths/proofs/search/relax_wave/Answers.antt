@@ -1,6 +1,5 @@
 use Rattle.std.proofs.Common.{ℕ, List, [], Ok, Err}
 use Rattle.std.specs.Prelude.{OnOk, Result}
-use Rattle.std.specs.BinaryHeap.{heap_items}
 use Rattle.algo_paths.specs.Search.{IsProgress}
 use Rattle.algo_paths.proofs.search.relax_wave.Goals as goal
 
@@ -11,5 +10,5 @@ at_one P x (Err e) h = h
 
 pub returns-then-is_wide : goal.returns-then-is_wide
 returns-then-is_wide g c =
-    at_one (λ (wave : List ℕ). IsProgress c.args.digraph.now c.args.weights.now wave [] c.args.best.now c.wide_wave.new.best (heap_items c.args.queue.now) (heap_items c.wide_wave.new.queue))
+    at_one (λ (wave : List ℕ). IsProgress c.args.digraph.now c.args.weights.now wave [] c.args.best.now c.wide_wave.new.best c.args.queue.now c.wide_wave.new.queue)
     c.args.wave.now c.wide_wave.result c.wide_wave.ensures
