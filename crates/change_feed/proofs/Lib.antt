@@ -1,5 +1,3 @@
-pub mod Taking
-pub mod Reader
 pub mod Texts
 pub mod Feeding
 pub mod Named

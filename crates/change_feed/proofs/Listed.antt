@@ -7,7 +7,7 @@ use Rattle.change_feed.specs.declared.fault.RowCause.{RowCause}
 use Rattle.change_feed.specs.declared.fault.FeedFault.{FeedFault}
 use Rattle.change_feed.specs.declared.fault.FeedFault.TheVariants.{BadRow}
 use Rattle.change_feed.specs.Fault.{◌>>=◌, at_row}
-use Rattle.change_feed.specs.Reading.{records_of}
+use Rattle.csv_records.specs.Reading.{records_of}
 use Rattle.change_feed.specs.Row.{change_of}
 use Rattle.change_feed.specs.Changes.{changes_from}
 use Rattle.change_feed.specs.Law.{FirstRow, FaultsAreFirst}

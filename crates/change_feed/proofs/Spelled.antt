@@ -24,7 +24,8 @@ use Rattle.change_feed.specs.declared.verb.Verb.{Verb}
 use Rattle.change_feed.specs.declared.verb.Verb.TheVariants as verb
 use Rattle.change_feed.specs.declared.setting.Setting.{Setting}
 use Rattle.change_feed.specs.Fault.{◌>>=◌}
-use Rattle.change_feed.specs.Row.{or_cause, are_texts, texts_checked, verb_of, verb_at, is_vertex_table, is_edge_table, table_named, table_at, props_of, fields_due, count_checked, value_at, long_in, key_at, values_of, values_from, is_prop, prop_at, value_of_prop, setting_of, inserted_vertex, inserted_edge, change_in, change_of}
+use Rattle.csv_records.specs.Texts.{are_texts}
+use Rattle.change_feed.specs.Row.{or_cause, texts_checked, verb_of, verb_at, is_vertex_table, is_edge_table, table_named, table_at, props_of, fields_due, count_checked, value_at, long_in, key_at, values_of, values_from, is_prop, prop_at, value_of_prop, setting_of, inserted_vertex, inserted_edge, change_in, change_of}
 use Rattle.change_feed.specs.Law.{WritesKey, InsertsVertex, DeletesVertex, InsertsEdge, DeletesEdge, SetsVertex, SetsEdge, Writes, IsRow, RowsWriteChanges}
 use Rattle.change_feed.proofs.Named.{position_is, found_by_name}
 

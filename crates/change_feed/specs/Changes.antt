@@ -5,7 +5,7 @@ use Rattle.graph_model.specs.declared.change.Change.{Change}
 use Rattle.change_feed.specs.declared.fault.FeedFault.{FeedFault}
 use Rattle.change_feed.specs.declared.fault.RowCause.{RowCause}
 use Rattle.change_feed.specs.Fault.{◌>>=◌, at_row}
-use Rattle.change_feed.specs.Reading.{records_of}
+use Rattle.csv_records.specs.Reading.{records_of}
 use Rattle.change_feed.specs.Row.{change_of}
 
 -- the changes of rows, of which the first has this number, or the first fault

@@ -13,8 +13,9 @@ use Rattle.graph_model.specs.declared.change.Change.{Change}
 use Rattle.graph_model.specs.declared.change.Change.TheVariants.{InsertVertex, DeleteVertex, InsertEdge, DeleteEdge, SetVertex, SetEdge}
 use Rattle.change_feed.specs.declared.fault.RowCause.{RowCause}
 use Rattle.change_feed.specs.declared.fault.FeedFault.TheVariants.{BadRow}
-use Rattle.change_feed.specs.Reading.{records_of}
-use Rattle.change_feed.specs.Row.{are_texts, values_of, change_of}
+use Rattle.csv_records.specs.Reading.{records_of}
+use Rattle.csv_records.specs.Texts.{are_texts}
+use Rattle.change_feed.specs.Row.{values_of, change_of}
 use Rattle.change_feed.specs.Changes.{changes_of}
 
 -- ---- the fields that write a change

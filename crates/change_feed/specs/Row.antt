@@ -1,7 +1,7 @@
 -- What one row of changes stands for: a change, or the first cause for which it is none.
 use Rattle.std.specs.Prelude.{ℕ, ◌+◌, ◌==◌, not, ℤ, Bool, if◌then◌else◌, List, [], ◌∷◌, length, drop, slice_get, position, codes, Option, Some, None, option_and_then, option_map, Result, Ok, Err}
-use Rattle.std.specs.List.{list_all}
-use Rattle.std.specs.Str.{is_utf8, bytes_eq}
+use Rattle.std.specs.Str.{bytes_eq}
+use Rattle.csv_records.specs.Texts.{are_texts}
 use Rattle.csv.specs.Records.{field_at}
 use Rattle.column_types.specs.declared.kind.Kind.{Kind}
 use Rattle.column_types.specs.declared.kind.Kind.TheVariants as kind
@@ -28,10 +28,6 @@ or_cause why None = Err why
 or_cause why (Some x) = Ok x
 
 -- ---- texts, word, table and number of fields
-
--- each field is UTF-8
-abbrev pub are_texts : List (List ℕ) → Bool
-are_texts fields = list_all is_utf8 fields
 
 unfoldable pub texts_checked : List (List ℕ) → Result (Unit {0}) RowCause
 texts_checked fields = if not (are_texts fields) then Err cause.Utf8 else Ok tt

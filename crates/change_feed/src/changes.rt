@@ -6,10 +6,10 @@ ghost use Rattle.change_feed.specs.Row.{change_of};
 ghost use Rattle.change_feed.specs.Changes.{changes_of, with_row};
 
 use crate::fault::{FeedFault, RowFault, fault_at};
-use crate::records::{open_records, take_record};
 use crate::row::read_row;
 use column_types::List;
 use csv::ByteRecord;
+use csv_records::{open_records, take_record};
 use graph_model::{Change, Schema};
 use std::alloc::Global;
 

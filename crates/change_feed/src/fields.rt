@@ -1,34 +1,16 @@
 //! The fields of a row.
-ghost use Rattle.std.specs.Prelude.{◌≡◌, ◌+◌, ◌≤◌, [], IsTrue, IfOk, OnOk, drop, length, option_map};
-ghost use Rattle.std.specs.List.{list_all};
-ghost use Rattle.std.specs.Str.{is_utf8};
-ghost use Rattle.csv.specs.Records.{field_at, fields_of};
+ghost use Rattle.std.specs.Prelude.{◌≡◌, ◌+◌, ◌≤◌, [], IsTrue, IfOk, OnOk, drop, length};
+ghost use Rattle.csv.specs.Records.{fields_of};
 ghost use Rattle.change_feed.specs.Fault.{Reads};
-ghost use Rattle.change_feed.specs.Row.{are_texts as texts, texts_checked, value_at, key_at, values_from};
+ghost use Rattle.csv_records.specs.Texts.{are_texts as texts};
+ghost use Rattle.change_feed.specs.Row.{texts_checked, value_at, key_at, values_from};
 
 use crate::fault::{RowCause, RowFault};
 use column_types::{FieldFault, Kind, List, NoMemory, Value, parse_value};
 use csv::ByteRecord;
+use csv_records::{are_texts, text_at};
 use graph_schema::Prop;
 use std::alloc::Global;
-use std::str::from_utf8;
-
-fn is_text(field: &[u8]) -> bool
-    ensures { result ≡ is_utf8 field.now }
-{
-    from_utf8(field).is_ok()
-}
-
-fn are_texts(fields: &ByteRecord) -> bool
-    ensures { result ≡ texts (fields_of fields.now) }
-{
-    for field in fields.iter() {
-        if !is_text(field) {
-            return false;
-        }
-    }
-    true
-}
 
 /// `Utf8` where a field is not UTF-8.
 #[tactic(auto, unfolding(crate::specs::Row::texts_checked))]
@@ -40,15 +22,6 @@ pub(crate) fn check_texts(fields: &ByteRecord) -> Result<(), RowFault>
         return Err(RowFault::Bad(RowCause::Utf8));
     }
     Ok(())
-}
-
-/// The text of a field, none past the last.
-pub(crate) fn text_at(fields: &ByteRecord, place: usize) -> Option<&str>
-    requires { IsTrue (texts (fields_of fields.now)) }
-    ensures { option_map (λ s. s.now) result ≡ field_at (fields_of fields.now) place }
-{
-    let field = fields.get(place)?;
-    from_utf8(field).ok()
 }
 
 /// The value of a field, `Field` where it writes none.

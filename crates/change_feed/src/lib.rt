@@ -23,7 +23,6 @@ mod changes;
 mod fault;
 mod fields;
 mod laws;
-mod records;
 mod row;
 mod setting;
 mod verb;

@@ -3,14 +3,16 @@ ghost use Rattle.std.specs.Prelude.{◌≡◌, ◌+◌, ◌≤◌, IsTrue, OnOk,
 ghost use Rattle.csv.specs.Records.{field_at, fields_of};
 ghost use Rattle.graph_model.specs.Graph.{vertex_table_props, edge_table_props};
 ghost use Rattle.change_feed.specs.Fault.{Reads};
-ghost use Rattle.change_feed.specs.Row.{are_texts, verb_of as verb_written, verb_at, is_vertex_table, is_edge_table, table_named as named, table_at, props_of as props_due, fields_due as due, count_checked, is_prop, prop_at, value_of_prop, setting_of, inserted_vertex, inserted_edge, change_in, change_of};
+ghost use Rattle.csv_records.specs.Texts.{are_texts};
+ghost use Rattle.change_feed.specs.Row.{verb_of as verb_written, verb_at, is_vertex_table, is_edge_table, table_named as named, table_at, props_of as props_due, fields_due as due, count_checked, is_prop, prop_at, value_of_prop, setting_of, inserted_vertex, inserted_edge, change_in, change_of};
 
 use crate::fault::{RowCause, RowFault};
-use crate::fields::{check_texts, read_key, read_value, read_values, text_at};
+use crate::fields::{check_texts, read_key, read_value, read_values};
 use crate::setting::Setting;
 use crate::verb::{Verb, verb_of};
 use column_types::Value;
 use csv::ByteRecord;
+use csv_records::text_at;
 use graph_model::{Change, EdgeTable, Prop, Schema, VertexTable};
 use std::alloc::Global;
 

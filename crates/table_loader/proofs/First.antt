@@ -7,7 +7,8 @@ use Rattle.table_loader.specs.declared.fault.LoadFault.{LoadFault}
 use Rattle.table_loader.specs.declared.fault.LoadFault.TheVariants.{Bad}
 use Rattle.table_loader.specs.Fault.{◌>>=◌, at_record}
 use Rattle.table_loader.specs.Put.{put, put_all}
-use Rattle.table_loader.specs.Tables.{records_of, file_change, put_file, put_files, tables_of}
+use Rattle.csv_records.specs.Reading.{records_of}
+use Rattle.table_loader.specs.Tables.{file_change, put_file, put_files, tables_of}
 use Rattle.table_loader.specs.Inline.{inline_schema, inline_of, vertex_line, edge_line, put_vertices, put_edges}
 use Rattle.table_loader.specs.Law.{FirstItem, FirstRecord, FirstLine}
 

@@ -12,7 +12,8 @@ use Rattle.graph_model.proofs.Zips.{AllZip-length}
 use Rattle.table_loader.specs.declared.fault.LoadFault.{LoadFault}
 use Rattle.table_loader.specs.Fault.{◌>>=◌, at_record}
 use Rattle.table_loader.specs.Put.{put, put_all, unless_misfit}
-use Rattle.table_loader.specs.Tables.{records_of, file_change, put_file, put_files}
+use Rattle.csv_records.specs.Reading.{records_of}
+use Rattle.table_loader.specs.Tables.{file_change, put_file, put_files}
 use Rattle.table_loader.specs.Law.{AreRead}
 
 -- ---- steps that succeed

@@ -1,5 +1,3 @@
-pub mod Taking
-pub mod Reader
 pub mod Putting
 pub mod Fields
 pub mod Growing

@@ -11,7 +11,8 @@ use Rattle.graph_model.specs.Change.{misfit}
 use Rattle.table_loader.specs.declared.fault.LoadFault.TheVariants.{Bad}
 use Rattle.table_loader.specs.Record.{vertex_of, edge_of}
 use Rattle.table_loader.specs.Put.{put_read, put_all}
-use Rattle.table_loader.specs.Tables.{records_of, file_change, tables_of}
+use Rattle.csv_records.specs.Reading.{records_of}
+use Rattle.table_loader.specs.Tables.{file_change, tables_of}
 use Rattle.table_loader.specs.Inline.{inline_schema, inline_of, vertex_line, edge_line, put_vertices}
 
 -- ---- the first fault

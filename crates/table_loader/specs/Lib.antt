@@ -1,7 +1,6 @@
 pub mod Fault
 pub mod Record
 pub mod Put
-pub mod Reading
 pub mod Tables
 pub mod Inline
 pub mod Law

@@ -1,7 +1,6 @@
 -- What one record of a table file stands for. A fault is told by its number.
 use Rattle.std.specs.Prelude.{ℕ, ◌+◌, ◌==◌, not, ℤ, Bool, if◌then◌else◌, List, [], ◌∷◌, length, drop, Option, Some, None, option_and_then, option_map, Result, Ok, Err}
-use Rattle.std.specs.List.{list_all}
-use Rattle.std.specs.Str.{is_utf8}
+use Rattle.csv_records.specs.Texts.{are_texts}
 use Rattle.csv.specs.Records.{field_at}
 use Rattle.column_types.specs.declared.kind.Kind.{Kind}
 use Rattle.column_types.specs.declared.kind.Kind.TheVariants as kind
@@ -17,10 +16,6 @@ use Rattle.table_loader.specs.Fault.{◌>>=◌}
 abbrev pub or_fault : {A : Type 0} → ℕ → Option A → Result A ℕ
 or_fault number None = Err number
 or_fault number (Some x) = Ok x
-
--- each field is UTF-8
-abbrev pub are_texts : List (List ℕ) → Bool
-are_texts fields = list_all is_utf8 fields
 
 -- so many fields, each of them UTF-8
 unfoldable pub fields_checked : ℕ → List (List ℕ) → Result (Unit {0}) ℕ

@@ -1,19 +1,15 @@
 -- The graph that table files stand for.
 use Rattle.std.specs.Prelude.{ℕ, ◌+◌, ◌-◌, nat_lt, if◌then◌else◌, List, [], ◌∷◌, length, map, Result, Ok}
-use Rattle.csv.specs.Reading.{default_config, strip_bom, records}
 use Rattle.graph_schema.specs.declared.schema.Prop.{Prop}
 use Rattle.graph_schema.specs.Schema.{SchemaData}
 use Rattle.graph_model.specs.declared.change.Change.{Change}
 use Rattle.graph_model.specs.declared.change.Change.TheVariants.{InsertVertex, InsertEdge}
 use Rattle.graph_model.specs.Graph.{GraphData, empty_graph, vertex_props_at, edge_props_at}
+use Rattle.csv_records.specs.Reading.{records_of}
 use Rattle.table_loader.specs.declared.fault.LoadFault.{LoadFault}
 use Rattle.table_loader.specs.Fault.{◌>>=◌}
 use Rattle.table_loader.specs.Record.{vertex_of, edge_of}
 use Rattle.table_loader.specs.Put.{put_all}
-
--- the records of a file, each a list of fields, as `csv` reads them without a header row
-abbrev pub records_of : List ℕ → List (List (List ℕ))
-records_of bytes = records default_config (strip_bom bytes)
 
 -- the record of a vertex, or of an edge, puts it at the end of a table with these properties
 unfoldable pub vertex_change : ℕ → List Prop → List (List ℕ) → Result Change ℕ

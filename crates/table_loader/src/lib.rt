@@ -29,7 +29,6 @@ mod inline;
 mod laws;
 mod put;
 mod record;
-mod records;
 mod tables;
 
 pub use fault::LoadFault;

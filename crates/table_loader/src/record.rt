@@ -1,35 +1,17 @@
 //! Records as rows.
-ghost use Rattle.std.specs.Prelude.{◌≡◌, ◌+◌, ◌≤◌, [], IsTrue, IfOk, OnOk, drop, length, option_map};
-ghost use Rattle.std.specs.List.{list_all};
-ghost use Rattle.std.specs.Str.{is_utf8};
-ghost use Rattle.csv.specs.Records.{field_at, fields_of};
+ghost use Rattle.std.specs.Prelude.{◌≡◌, ◌+◌, ◌≤◌, [], IsTrue, IfOk, OnOk, drop, length};
+ghost use Rattle.csv.specs.Records.{fields_of};
 ghost use Rattle.table_loader.specs.Fault.{Reads};
-ghost use Rattle.table_loader.specs.Record.{are_texts as texts, fields_checked, value_at, key_at, values_from, vertex_of, edge_of};
+ghost use Rattle.csv_records.specs.Texts.{are_texts as texts};
+ghost use Rattle.table_loader.specs.Record.{fields_checked, value_at, key_at, values_from, vertex_of, edge_of};
 
 use crate::fault::RecordFault;
 use column_types::{FieldFault, Kind, List, NoMemory, Value, parse_value};
 use csv::ByteRecord;
+use csv_records::{are_texts, text_at};
 use graph_model::{EdgeRow, VertexRow};
 use graph_schema::Prop;
 use std::alloc::Global;
-use std::str::from_utf8;
-
-fn is_text(field: &[u8]) -> bool
-    ensures { result ≡ is_utf8 field.now }
-{
-    from_utf8(field).is_ok()
-}
-
-fn are_texts(fields: &ByteRecord) -> bool
-    ensures { result ≡ texts (fields_of fields.now) }
-{
-    for field in fields.iter() {
-        if !is_text(field) {
-            return false;
-        }
-    }
-    true
-}
 
 /// 9 where the record has another number of fields, 8 where one of them is not UTF-8.
 #[tactic(auto, unfolding(crate::specs::Record::fields_checked))]
@@ -45,15 +27,6 @@ fn check_fields(fields: &ByteRecord, count: usize) -> Result<(), RecordFault>
         return Err(RecordFault::Bad(8));
     }
     Ok(())
-}
-
-/// The text of a field, none past the last.
-fn text_at(fields: &ByteRecord, place: usize) -> Option<&str>
-    requires { IsTrue (texts (fields_of fields.now)) }
-    ensures { option_map (λ s. s.now) result ≡ field_at (fields_of fields.now) place }
-{
-    let field = fields.get(place)?;
-    from_utf8(field).ok()
 }
 
 /// The value of a field, 10 where it writes none.

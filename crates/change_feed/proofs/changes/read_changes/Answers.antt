@@ -2,10 +2,10 @@ use Rattle.std.proofs.Common.{◌+◌, arith, ap, sym, ◌∙◌, length}
 use Rattle.csv.specs.Records.{fields_of}
 use Rattle.csv.specs.declared.parser.State.TheVariants as st
 use Rattle.change_feed.specs.Changes.{changes_from}
-use Rattle.change_feed.specs.Reading.{records_left}
+use Rattle.csv_records.specs.Reading.{records_left}
 use Rattle.change_feed.proofs.Feeding.{behind, behind_nothing, goes_on, stops, ends}
-use Rattle.change_feed.proofs.Reader.{was_taken, was_last}
-use Rattle.change_feed.proofs.Taking.{few_records}
+use Rattle.csv_records.proofs.Reader.{was_taken, was_last}
+use Rattle.csv_records.proofs.Taking.{few_records}
 use Rattle.change_feed.proofs.changes.read_changes.Goals as goal
 
 pub records-init : goal.records-init

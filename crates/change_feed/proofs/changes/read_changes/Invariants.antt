@@ -1,6 +1,6 @@
 use Rattle.std.proofs.Common.{◌≡◌, ◌+◌, ◌≤◌, length}
 use Rattle.change_feed.specs.Changes.{changes_from, changes_of}
-use Rattle.change_feed.specs.Reading.{IsReading, records_left}
+use Rattle.csv_records.specs.Reading.{IsReading, records_left}
 use Rattle.change_feed.proofs.Feeding.{behind}
 use Rattle.change_feed.proofs.changes.read_changes.Given as goal
 

@@ -1,4 +1,4 @@
-use Rattle.change_feed.specs.Reading.{records_of}
+use Rattle.csv_records.specs.Reading.{records_of}
 use Rattle.change_feed.specs.Law.{IsRow}
 use Rattle.change_feed.proofs.Listed.{rows_told, rows_tell}
 use Rattle.change_feed.proofs.Spelled.{row_written, row_read}

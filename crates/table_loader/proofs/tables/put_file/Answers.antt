@@ -2,11 +2,11 @@ use Rattle.std.proofs.Common.{◌+◌, arith, ap, sym, ◌∙◌, length, map}
 use Rattle.csv.specs.Records.{fields_of}
 use Rattle.csv.specs.declared.parser.State.TheVariants as st
 use Rattle.table_loader.specs.Put.{put_all}
-use Rattle.table_loader.specs.Reading.{records_left}
+use Rattle.csv_records.specs.Reading.{records_left}
 use Rattle.table_loader.specs.Tables.{file_change}
 use Rattle.table_loader.proofs.Putting.{goes_on, stops, ends}
-use Rattle.table_loader.proofs.Reader.{was_taken, was_last}
-use Rattle.table_loader.proofs.Taking.{few_records}
+use Rattle.csv_records.proofs.Reader.{was_taken, was_last}
+use Rattle.csv_records.proofs.Taking.{few_records}
 use Rattle.table_loader.proofs.tables.put_file.Goals as goal
 
 pub records-init : goal.records-init

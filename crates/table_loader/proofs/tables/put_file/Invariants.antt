@@ -1,6 +1,6 @@
 use Rattle.std.proofs.Common.{◌≡◌, ◌+◌, ◌≤◌, length, map}
 use Rattle.table_loader.specs.Put.{put_all}
-use Rattle.table_loader.specs.Reading.{IsReading, records_left}
+use Rattle.csv_records.specs.Reading.{IsReading, records_left}
 use Rattle.table_loader.specs.Tables.{file_change, put_file}
 use Rattle.table_loader.proofs.tables.put_file.Given as goal
 

@@ -1,7 +1,7 @@
 use Rattle.std.proofs.Common.{◌∙◌, refl, sym}
 use Rattle.csv.specs.Records.{fields_of}
-use Rattle.table_loader.proofs.Fields.{texts_more, texts_less, texts_end}
-use Rattle.table_loader.proofs.record.are_texts.Goals as goal
+use Rattle.csv_records.proofs.Texts.{texts_more, texts_less, texts_end}
+use Rattle.csv_records.proofs.fields.are_texts.Goals as goal
 
 pub returns-then-not-is_text : goal.returns-then-not-is_text
 returns-then-not-is_text c =

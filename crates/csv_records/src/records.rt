@@ -1,15 +1,14 @@
 //! The records of a file, one at a time.
 ghost use Rattle.std.specs.Prelude.{◌≡◌, IfOk};
 ghost use Rattle.csv.specs.Records.{fields_of};
-ghost use Rattle.change_feed.specs.Reading.{IsReading, TakesRecord, records_left};
-ghost use Rattle.change_feed.specs.Reading.{records_of};
+ghost use Rattle.csv_records.specs.Reading.{IsReading, TakesRecord, records_left, records_of};
 
 use column_types::NoMemory;
 use csv::{ByteRecord, Reader, ReaderBuilder};
 use std::alloc::Global;
 
 /// A reader of the records of a file without a header row.
-pub(crate) fn open_records(alloc: Global, bytes: &[u8]) -> Reader<&[u8]>
+pub fn open_records(alloc: Global, bytes: &[u8]) -> Reader<&[u8]>
     ensures reading { IsReading result }
     ensures all { records_left result ≡ records_of bytes.entry.now }
 {
@@ -21,10 +20,7 @@ pub(crate) fn open_records(alloc: Global, bytes: &[u8]) -> Reader<&[u8]>
 
 /// Takes the next record, and answers whether there was one. A slice is read without a fault, so an error of the reader is
 /// out of memory. Nothing is said of the reader after it.
-pub(crate) fn take_record(
-    reader: &mut Reader<&[u8]>,
-    fields: &mut ByteRecord,
-) -> Result<bool, NoMemory>
+pub fn take_record(reader: &mut Reader<&[u8]>, fields: &mut ByteRecord) -> Result<bool, NoMemory>
     requires { IsReading reader.old }
     ensures { IfOk result (λ found. TakesRecord reader.old found (fields_of fields.new) reader.new) }
 {

@@ -1,6 +1,6 @@
 use Rattle.csv.specs.Records.{fields_of}
-use Rattle.table_loader.proofs.Reader.{reads_on}
-use Rattle.table_loader.proofs.records.take_record.Goals as goal
+use Rattle.csv_records.proofs.Reader.{reads_on}
+use Rattle.csv_records.proofs.records.take_record.Goals as goal
 
 pub returns : goal.returns
 returns c =

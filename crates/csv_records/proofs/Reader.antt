@@ -6,8 +6,8 @@ use Rattle.csv.specs.Reading.{ReadRecord, Reached, default_config, records_from}
 use Rattle.csv.specs.declared.parser.State.{State}
 use Rattle.csv.specs.declared.reader.Reader.{Reader}
 use Rattle.csv.proofs.ReadFacts.{rows-end, rows-more}
-use Rattle.change_feed.specs.Reading.{bytes_left, records_in, records_left, IsReading, TakesRecord}
-use Rattle.change_feed.proofs.Taking.{taken, none_taken}
+use Rattle.csv_records.specs.Reading.{bytes_left, records_in, records_left, IsReading, TakesRecord}
+use Rattle.csv_records.proofs.Taking.{taken, none_taken}
 
 some_of : (o : Option (List ℕ)) → IsSome o → (xs : List ℕ) × (o ≡ Some xs)
 some_of None h = absurd (false≢true h)

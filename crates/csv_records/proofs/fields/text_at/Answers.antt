@@ -1,8 +1,8 @@
 use Rattle.std.proofs.Common.{◌∙◌, sym, ap}
 use Rattle.std.specs.Prelude.{option_map}
 use Rattle.csv.specs.Records.{fields_of}
-use Rattle.change_feed.proofs.Texts.{text-at, text_by}
-use Rattle.change_feed.proofs.fields.text_at.Goals as goal
+use Rattle.csv_records.proofs.Texts.{text-at, text_by}
+use Rattle.csv_records.proofs.fields.text_at.Goals as goal
 
 pub returns : goal.returns
 returns c =

@@ -1,6 +1,0 @@
-use Rattle.std.proofs.Common.{◌∙◌}
-use Rattle.table_loader.proofs.Fields.{is_text_by}
-use Rattle.table_loader.proofs.record.is_text.Goals as goal
-
-pub returns : goal.returns
-returns c = c.is_ok.ensures.value ∙ is_text_by _ c.args.field.now c.from_utf8.result c.from_utf8.ensures.cases
