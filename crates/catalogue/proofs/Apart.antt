@@ -67,7 +67,7 @@ with_back l rs s more w = record {
   after = ap (λ x. x ++ l) w.after ∙ append_assoc w.front (s ∷ w.back) l;
 }
 
-with_first : (s : Snap) (rs : List Snap) → IsWith rs s (s ∷ rs)
+pub with_first : (s : Snap) (rs : List Snap) → IsWith rs s (s ∷ rs)
 with_first s rs = record { front = []; back = rs; before = refl; after = refl }
 
 module _ {X : Type 0} (f : X → List Snap) (p : X → Bool) (g : X → X) (s : Snap) where
@@ -112,10 +112,10 @@ held_less : (p : Held → Bool) (h : Held) (held : List Held) → find p held �
 held_less p h [] is = absurd (none-some h is)
 held_less p h (x ∷ held) is = held_less_at p h x held (p x) refl is (held_less p h held)
 
-abbrev of_line : Line → List Snap
+abbrev pub of_line : Line → List Snap
 of_line l = l.snaps
 
-abbrev of_session : Session → List Snap
+abbrev pub of_session : Session → List Snap
 of_session s = snaps_of s.held
 
 -- the caller's session gets one more, or gives one up
@@ -183,7 +183,7 @@ module _ {X : Type 0} (f : X → List Snap) (p : X → Bool) where
   gone_uses_at c y x xs false e is ih =
       omega (arith, uses_append c (f x) (flat_map f xs), uses_append c (f x) (flat_map f (drop_first p xs)), ih (rw e at is))
 
-  gone_uses : (c : ℕ) (y : X) (xs : List X) → find p xs ≡ Some y → uses c (flat_map f xs) ≡ uses c (f y) + uses c (flat_map f (drop_first p xs))
+  pub gone_uses : (c : ℕ) (y : X) (xs : List X) → find p xs ≡ Some y → uses c (flat_map f xs) ≡ uses c (f y) + uses c (flat_map f (drop_first p xs))
   gone_uses c y [] is = absurd (none-some y is)
   gone_uses c y (x ∷ xs) is = gone_uses_at c y x xs (p x) refl is (gone_uses c y xs)
 
@@ -202,7 +202,7 @@ module _ {X : Type 0} (f : X → List Snap) (p : X → Bool) where
         ],
       )
 
-  gone_in : (t : Snap) (y : X) (xs : List X) → find p xs ≡ Some y → (Contains (f y) t → Contains (flat_map f xs) t) × (Contains (flat_map f (drop_first p xs)) t → Contains (flat_map f xs) t)
+  pub gone_in : (t : Snap) (y : X) (xs : List X) → find p xs ≡ Some y → (Contains (f y) t → Contains (flat_map f xs) t) × (Contains (flat_map f (drop_first p xs)) t → Contains (flat_map f xs) t)
   gone_in t y [] is = absurd (none-some y is)
   gone_in t y (x ∷ xs) is = gone_at t y x xs (p x) refl is (gone_in t y xs)
 

@@ -14,7 +14,7 @@ use Rattle.catalogue.specs.declared.parts.Held.{Held}
 use Rattle.catalogue.specs.declared.parts.Session.{Session}
 use Rattle.catalogue.specs.declared.response.Response.{Response}
 use Rattle.catalogue.specs.State.{Name, State, of_who, named, session_of, held_of, change_first}
-use Rattle.catalogue.specs.Step.{step, hold_more, private_graph, drawn, new_columns}
+use Rattle.catalogue.specs.Step.{step, hold_more, private_graph, drawn, new_columns, with_session, move_to, to_snap}
 use Rattle.catalogue.specs.Gift.{gift_of, snap_gift, held_under}
 use Rattle.catalogue.specs.Kept.{MayHold}
 use Rattle.catalogue.specs.Response.{IsServed, sid_response}
@@ -67,6 +67,25 @@ module _ (m : State) (who : ℕ) (name : Name) (source : Option Name) (snap : Sn
         kept = refl;
         gift = sym (gives (drawn m who graph new) snap.sid ∙ ap snap_gift (held_drawn m who graph new may.session may.is may.free));
       }
+
+-- ---- pins
+
+-- the session that holds one graph more holds it under its name
+pub held_pinned : (m : State) (who : ℕ) (h : Held) (s : Session) → session_of m who ≡ Some s → held_of s h.name ≡ None → held_under (with_session m who (hold_more h)) who h.name ≡ Some h
+held_pinned m who h s is free =
+    ap (option_and_then (λ (t : Session). held_of t h.name)) (find_changed (of_who who) (hold_more h) s m.sessions (λ x. refl) is) ∙ find_push (named h.name) h s.held (own_name h.name) free
+
+-- the session whose pin was moved holds the other snapshot under its name
+pub held_moved : (m : State) (who : ℕ) (name : Name) (b : Snap) (s : Session) (h : Held) → session_of m who ≡ Some s → held_of s name ≡ Some h
+    → held_under (with_session m who (move_to name b)) who name ≡ Some (to_snap b h)
+held_moved m who name b s h is has =
+    ap (option_and_then (λ (t : Session). held_of t name)) (find_changed (of_who who) (move_to name b) s m.sessions (λ x. refl) is) ∙ find_changed (named name) (to_snap b) h s.held (λ x. refl) has
+
+-- a call that brings a snapshot is served by the response that tells its id and hands it out
+pub came_served : (m : State) (who : ℕ) (ask : Ask) (name : Name) (h : Held) (n : State) (r : Response) → step m who ask ≡ (Sid h.snap.sid, n) → held_under n who name ≡ Some h
+    → ((s : State) (k : ℕ) → gift_of s who ask (Sid k) ≡ snap_gift (held_under s who name)) → r ≡ sid_response h.snap → IsServed m who ask n r
+came_served m who ask name h n r steps has gives told =
+    rw told record { step = steps; kept = refl; gift = sym (gives n h.snap.sid ∙ ap snap_gift has) }
 
 pub none_new : (how : How) → 0 ≡ new_columns how
 none_new (Mutate Clone) = refl

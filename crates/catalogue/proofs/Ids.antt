@@ -8,21 +8,24 @@ use Rattle.turn_hall.specs.declared.entry.Entry.{Entry}
 use Rattle.turn_hall.specs.Replay.{replay}
 use Rattle.turn_hall.proofs.Histories.{replay-append, replay-keeps}
 use Rattle.catalogue.specs.declared.ask.Ask.{Ask}
-use Rattle.catalogue.specs.declared.ask.Ask.TheVariants.{OpenSession, CloseSession, Peek, Place, Derive, Release, Columns}
+use Rattle.catalogue.specs.declared.ask.Ask.TheVariants.{OpenSession, CloseSession, Peek, Place, Derive, Publish, Unpublish, Get, Checkout, Release, Columns, Lines}
 use Rattle.catalogue.specs.declared.ask.How.TheVariants.{Mutate}
 use Rattle.catalogue.specs.declared.ask.Mutation.TheVariants.{Clone}
 use Rattle.catalogue.specs.declared.reply.Reply.{Reply}
 use Rattle.catalogue.specs.declared.reply.Refusal.{Refusal}
 use Rattle.catalogue.specs.declared.parts.Snap.{Snap}
 use Rattle.catalogue.specs.declared.parts.Line.{Line}
+use Rattle.catalogue.specs.declared.parts.Hold.{Hold}
+use Rattle.catalogue.specs.declared.parts.Hold.TheVariants.{Private, Pin}
 use Rattle.catalogue.specs.declared.parts.Held.{Held}
 use Rattle.catalogue.specs.declared.parts.Session.{Session}
-use Rattle.catalogue.specs.State.{Name, State, of_who, named, change_first, snaps_of, roots}
-use Rattle.catalogue.specs.Step.{Answer, step, hold_more, let_go, private_graph, drawn, placed, derived}
+use Rattle.catalogue.specs.State.{Name, State, of_who, named, from_line, latest, snap_at, private_source, pinned_line, change_first, snaps_of, roots}
+use Rattle.catalogue.specs.Step.{Answer, step, hold_more, let_go, private_graph, drawn, placed, derived, pin, to_pin, to_snap, pin_as, move_to, new_line}
 use Rattle.catalogue.specs.Bound.{opening}
 use Rattle.catalogue.specs.Law.{line_sources, held_source, sid_sources}
-use Rattle.catalogue.specs.Desk.{unless_keeps, given_keeps}
-use Rattle.catalogue.proofs.Lists.{Each, in_none, each_none, each_cons, each_changed, each_dropped, each_push, each_flat, in_flat}
+use Rattle.catalogue.specs.Desk.{unless_keeps, given_keeps, of_find}
+use Rattle.catalogue.proofs.Lists.{Each, in_none, each_none, each_cons, each_changed, each_found, each_dropped, each_push, each_flat, in_flat}
+use Rattle.catalogue.proofs.Latest.{of_latest, of_target}
 
 -- what a call lists is what was listed, and at most one new item, which has the next id
 pub record Draws {Y : Type 0} (items : State → List Y) (sid : Y → ℕ) (m n : State) : Type 0 where
@@ -98,8 +101,15 @@ module _ {Y : Type 0} (sid : Y → ℕ) (of_line : Line → List Y) (of_held : H
     in_sessions all s j h k y i =
         all y (Contains-append_right (flat_map of_line lines) (flat_map of_session sessions) y (in_flat of_session s sessions y j (in_flat of_held h s.held y k i)))
 
-  -- a private graph has one item, with the id of its snapshot
-  module _ (single : (name : Name) (source : Option Name) (snap : Snap) → (y : Y) × (of_held (private_graph name source snap) ≡ y ∷ []) × (sid y ≡ snap.sid)) where
+  -- a private graph has one item, with the id of its snapshot; it has the same where it is published, and a pin has no items but
+  -- those of its published graph
+  pub record IsListing : Type 0 where
+    pub single : (name : Name) (source : Option Name) (snap : Snap) → (y : Y) × (of_held (private_graph name source snap) ≡ y ∷ []) × (sid y ≡ snap.sid)
+    pub published : (who : ℕ) (line : Name) (keep threshold : ℕ) (name : Name) (source : Option Name) (snap : Snap) → of_line (new_line who line keep threshold source snap) ≡ of_held (private_graph name source snap)
+    pub pins : (name line : Name) (snap : Snap) (l : Line) → Contains l.snaps snap → Each (Contains (of_line l)) (of_held (pin name line snap))
+    pub kept_pins : (line : Name) (h : Held) → Each (Contains (of_held h)) (of_held (to_pin line h))
+
+  module _ (listing : IsListing) where
     module _ (m : State) where
       abbrev Old : Y → Type 0
       Old y = Contains (items m) y
@@ -117,23 +127,46 @@ module _ {Y : Type 0} (sid : Y → ℕ) (of_line : Line → List Y) (of_held : H
       D a = Draws items sid m a.1
 
       -- where nothing is drawn
-      none_drawn : (n : State) → n.next_sid ≡ m.next_sid → n.lines ≡ m.lines → Each (InSession (Now None)) n.sessions → Draws items sid m n
+      abbrev InLine : Line → Type 0
+      InLine l = Each (Now None) (of_line l)
+
+      none_drawn : (n : State) → n.next_sid ≡ m.next_sid → Each InLine n.lines → Each (InSession (Now None)) n.sessions → Draws items sid m n
       none_drawn n same ls ss = record {
         new = None;
         next = λ y e. absurd (none-some y e);
         rises = omega (arith, same);
-        each = each_item (Now None) n.lines n.sessions (subst (λ (l : List Line). Each (λ x. Each (Now None) (of_line x)) l) (sym ls) (lines None)) ss;
+        each = each_item (Now None) n.lines n.sessions ls ss;
       }
 
       kept : (r : Refusal) → Draws items sid m m
-      kept r = none_drawn m refl refl (sessions None)
+      kept r = none_drawn m refl (lines None) (sessions None)
+
+      -- the items of a graph that is held for itself are those of the published graph that is made of it
+      line_of_private_at : (who : ℕ) (line : Name) (keep threshold : ℕ) (name : Name) (hold : Hold) (snap : Snap) (source : Option Name) → private_source hold ≡ Some source
+          → Each (Now None) (of_held (record { name = name; hold = hold; snap = snap })) → InLine (new_line who line keep threshold source snap)
+      line_of_private_at who line keep threshold name (Private own) snap source is all =
+          subst (λ o. InLine (new_line who line keep threshold o snap)) (same_Some own source is)
+          (subst (Each (Now None)) (sym (listing.published who line keep threshold name own snap)) all)
+      line_of_private_at who line keep threshold name (Pin own) snap source is all = absurd (none-some source is)
+
+      -- the items of a pin are those of the published graph that has its snapshot
+      of_pin : (name line : Name) (snap : Snap) (l : Line) → Contains m.lines l → Contains l.snaps snap → Each (Now None) (of_held (pin name line snap))
+      of_pin name line snap l h k y i = lines None l h y (listing.pins name line snap l k y i)
+
+      moved_pin_at : (name : Name) (hold : Hold) (line : Name) (snap : Snap) (l : Line) → pinned_line hold ≡ Some line → Contains m.lines l → Contains l.snaps snap
+          → Each (Now None) (of_held (record { name = name; hold = hold; snap = snap }))
+      moved_pin_at name (Private own) line snap l is h k = absurd (none-some line is)
+      moved_pin_at name (Pin own) line snap l is h k = of_pin name own snap l h k
+
+      to_pins : (line : Name) (h : Held) → Each (Now None) (of_held h) → Each (Now None) (of_held (to_pin line h))
+      to_pins line h all y i = all y (listing.kept_pins line h y i)
 
       -- where a private graph is drawn
       one_drawn : (who : ℕ) (name : Name) (source : Option Name) (snap : Snap) (new : ℕ) → snap.sid ≡ m.next_sid → Draws items sid m (drawn m who (private_graph name source snap) new)
       one_drawn who name source snap new at =
-          let y = (single name source snap).0 in
-          let is = (single name source snap).1 in
-          let id = (single name source snap).2 in
+          let y = (listing.single name source snap).0 in
+          let is = (listing.single name source snap).1 in
+          let id = (listing.single name source snap).2 in
           let h = private_graph name source snap in
           let one : Each (Now (Some y)) (of_held h) = subst (Each (Now (Some y))) (sym is) (each_cons (Now (Some y)) y [] (inr refl) (each_none (Now (Some y)))) in
           record {
@@ -147,9 +180,9 @@ module _ {Y : Type 0} (sid : Y → ℕ) (of_line : Line → List Y) (of_held : H
       pub step_draws : (who : ℕ) (ask : Ask) → Draws items sid m (step m who ask).1
       step_draws who OpenSession =
           unless_keeps D m kept _ _ _ (unless_keeps D m kept _ _ _
-          (none_drawn _ refl refl (each_push (InSession (Now None)) m.sessions _ (sessions None) (each_none (λ h. Each (Now None) (of_held h))))))
-      step_draws who CloseSession = given_keeps D m kept _ _ _ (λ s is. none_drawn _ refl refl (each_dropped (InSession (Now None)) (of_who who) m.sessions (sessions None)))
-      step_draws who (Peek source) = given_keeps D m kept _ _ _ (λ s is. none_drawn _ refl refl (sessions None))
+          (none_drawn _ refl (lines None) (each_push (InSession (Now None)) m.sessions _ (sessions None) (each_none (λ h. Each (Now None) (of_held h))))))
+      step_draws who CloseSession = given_keeps D m kept _ _ _ (λ s is. none_drawn _ refl (lines None) (each_dropped (InSession (Now None)) (of_who who) m.sessions (sessions None)))
+      step_draws who (Peek source) = given_keeps D m kept _ _ _ (λ s is. none_drawn _ refl (lines None) (sessions None))
       step_draws who (Place name source front) =
           given_keeps D m kept _ _ _ (λ s is. given_keeps D m kept _ _ _ (λ from js.
           unless_keeps D m kept _ _ _ (unless_keeps D m kept _ _ _ (unless_keeps D m kept _ _ _
@@ -158,11 +191,29 @@ module _ {Y : Type 0} (sid : Y → ℕ) (of_line : Line → List Y) (of_held : H
           given_keeps D m kept _ _ _ (λ s is. given_keeps D m kept _ _ _ (λ b js.
           unless_keeps D m kept _ _ _ (unless_keeps D m kept _ _ _
           (one_drawn who name None (derived m b.snap (Mutate Clone)) _ refl))))
+      step_draws who (Publish name line keep threshold) =
+          given_keeps D m kept _ _ _ (λ s is. given_keeps D m kept _ _ _ (λ h js. given_keeps D m kept _ _ _ (λ source ks.
+          unless_keeps D m kept _ _ _ (unless_keeps D m kept _ _ _ (none_drawn _ refl
+          (each_push InLine m.lines _ (lines None) (line_of_private_at who line keep threshold h.name h.hold h.snap source ks (sessions None s (of_find (of_who who) m.sessions s is) h (of_find (named name) s.held h js))))
+          (each_changed (InSession (Now None)) (of_who who) (pin_as name line) (λ t all. each_changed (λ x. Each (Now None) (of_held x)) (named name) (to_pin line) (to_pins line) t.held all) m.sessions (sessions None)))))))
+      step_draws who (Unpublish line) =
+          given_keeps D m kept _ _ _ (λ s is. given_keeps D m kept _ _ _ (λ l js. unless_keeps D m kept _ _ _ (none_drawn _ refl (each_dropped InLine (from_line line) m.lines (lines None)) (sessions None))))
+      step_draws who (Get line name) =
+          given_keeps D m kept _ _ _ (λ s is. given_keeps D m kept _ _ _ (λ l js. unless_keeps D m kept _ _ _ (unless_keeps D m kept _ _ _ (
+          given_keeps D m kept _ _ _ (λ snap ks. none_drawn _ refl (lines None)
+          (each_changed (InSession (Now None)) (of_who who) (hold_more (pin name line snap))
+          (λ t all. each_push (λ x. Each (Now None) (of_held x)) t.held (pin name line snap) all (of_pin name line snap l (of_find (from_line line) m.lines l js) (of_latest l.snaps snap ks))) m.sessions (sessions None)))))))
+      step_draws who (Checkout name target) =
+          given_keeps D m kept _ _ _ (λ s is. given_keeps D m kept _ _ _ (λ h js. given_keeps D m kept _ _ _ (λ line ks.
+          given_keeps D m kept _ _ _ (λ l ls. given_keeps D m kept _ _ _ (λ snap ns. none_drawn _ refl (lines None)
+          (each_found (InSession (Now None)) (of_who who) (move_to name snap) s m.sessions is
+          (each_found (λ x. Each (Now None) (of_held x)) (named name) (to_snap snap) h s.held js (moved_pin_at h.name h.hold line snap l ks (of_find (from_line line) m.lines l ls) (of_target target l.snaps snap ns)) (sessions None s (of_find (of_who who) m.sessions s is))) (sessions None)))))))
       step_draws who (Release name) =
           given_keeps D m kept _ _ _ (λ s is. given_keeps D m kept _ _ _ (λ h js.
-          none_drawn _ refl refl
+          none_drawn _ refl (lines None)
           (each_changed (InSession (Now None)) (of_who who) (let_go name) (λ t all. each_dropped (λ x. Each (Now None) (of_held x)) (named name) t.held all) m.sessions (sessions None))))
-      step_draws who Columns = none_drawn _ refl refl (sessions None)
+      step_draws who Columns = none_drawn _ refl (lines None) (sessions None)
+      step_draws who Lines = none_drawn _ refl (lines None) (sessions None)
 
     -- before any call nothing is listed
     opening_sound : (m : State) → opening m ≡ m → IsSound items sid m
@@ -193,10 +244,18 @@ held_snaps (s ∷ sessions) =
 snaps_are_roots : (m : State) → roots m ≡ items snap_sid snaps_of_line snap_of_held m
 snaps_are_roots m = ap (λ l. flat_map snaps_of_line m.lines ++ l) (sym (held_snaps m.sessions))
 
+snaps_listed : IsListing snap_sid snaps_of_line snap_of_held
+snaps_listed = record {
+  single = λ name source snap. (snap, refl, refl);
+  published = λ who line keep threshold name source snap. refl;
+  pins = λ name line snap l h. each_cons (Contains l.snaps) snap [] h (each_none (Contains l.snaps));
+  kept_pins = λ line h y i. i;
+}
+
 pub one_snap : (m : State) (es more : List (Entry Ask Reply)) (a b : Snap) → opening m ≡ m
     → Contains (roots (replay step m es)) a → Contains (roots (replay step m (es ++ more))) b → a.sid ≡ b.sid → a ≡ b
 one_snap m es more a b first h k q =
-    one_drawn_item snap_sid snaps_of_line snap_of_held (λ name source snap. (snap, refl, refl)) m es more a b first
+    one_drawn_item snap_sid snaps_of_line snap_of_held snaps_listed m es more a b first
     (subst (λ l. Contains l a) (snaps_are_roots (replay step m es)) h) (subst (λ l. Contains l b) (snaps_are_roots (replay step m (es ++ more))) k) q
 
 -- ---- sources
@@ -204,7 +263,15 @@ one_snap m es more a b first h k q =
 abbrev source_sid : ℕ × Option Name → ℕ
 source_sid p = p.0
 
+sources_listed : IsListing source_sid line_sources held_source
+sources_listed = record {
+  single = λ name source snap. ((snap.sid, source), refl, refl);
+  published = λ who line keep threshold name source snap. refl;
+  pins = λ name line snap l h. each_none (Contains (line_sources l));
+  kept_pins = λ line h. each_none (Contains (held_source h));
+}
+
 pub one_source : (m : State) (es more : List (Entry Ask Reply)) (sid : ℕ) (x y : Option Name) → opening m ≡ m
     → Contains (sid_sources (replay step m es)) (sid, x) → Contains (sid_sources (replay step m (es ++ more))) (sid, y) → x ≡ y
 one_source m es more sid x y first h k =
-    ap (λ (p : ℕ × Option Name). p.1) (one_drawn_item source_sid line_sources held_source (λ name source snap. ((snap.sid, source), refl, refl)) m es more (sid, x) (sid, y) first h k refl)
+    ap (λ (p : ℕ × Option Name). p.1) (one_drawn_item source_sid line_sources held_source sources_listed m es more (sid, x) (sid, y) first h k refl)

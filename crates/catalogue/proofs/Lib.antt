@@ -1,5 +1,6 @@
 pub mod Places
 pub mod Lists
+pub mod Latest
 pub mod Counts
 pub mod Roots
 pub mod Limits
@@ -16,3 +17,4 @@ pub mod Uses
 pub mod Apart
 pub mod Keys
 pub mod Coming
+pub mod Pinned

@@ -78,7 +78,7 @@ pub placed_first : (m : State) (from : Source) (front : ℕ) (g : GraphData) (n 
     → columns ≡ range_with_len m.next_column n → ◌≡◌ {A = Snap} (record { sid = m.next_sid; front = front; shot = g; columns = columns }) (placed m from front)
 placed_first m from front g n columns none shot count all = rw (none, all, shot, count) refl
 
-copied_is_some : {X : Type 0} (o : Option (Bor X)) → is_some (option_copied o) ≡ is_some o
+pub copied_is_some : {X : Type 0} (o : Option (Bor X)) → is_some (option_copied o) ≡ is_some o
 copied_is_some None = refl
 copied_is_some (Some x) = refl
 
@@ -86,7 +86,7 @@ pub not_held : (o : Option (Bor Held)) (name : Name) (s : Session) (held : List 
 not_held o name s held lent found none = ap (λ l. is_some (find (named name) l)) (sym lent) ∙ ap is_some (sym found) ∙ copied_is_some o ∙ none
 
 -- what a look-up that found nothing says
-nothing_found : {X : Type 0} (o : Option X) → is_some o ≡ false → o ≡ None
+pub nothing_found : {X : Type 0} (o : Option X) → is_some o ≡ false → o ≡ None
 nothing_found None e = refl
 nothing_found (Some x) e = absurd (cc)
 

@@ -5,7 +5,7 @@ use Rattle.std.proofs.lemmas.Bool.Decides.{nat_tests}
 use Rattle.turn_hall.specs.declared.entry.Entry.{Entry}
 use Rattle.turn_hall.specs.Replay.{replay, entries_of}
 use Rattle.catalogue.specs.declared.ask.Ask.{Ask}
-use Rattle.catalogue.specs.declared.ask.Ask.TheVariants.{OpenSession, CloseSession, Peek, Place, Derive, Release, Columns}
+use Rattle.catalogue.specs.declared.ask.Ask.TheVariants.{OpenSession, CloseSession, Peek, Place, Derive, Publish, Unpublish, Get, Checkout, Release, Columns, Lines}
 use Rattle.catalogue.specs.declared.reply.Reply.{Reply}
 use Rattle.catalogue.specs.declared.parts.Session.{Session}
 use Rattle.catalogue.specs.State.{State, change_first, drop_first, of_who, session_of, holds, held_in}
@@ -50,9 +50,21 @@ module _ (who other : ℕ) (differ : other ≢ who) where
   session_stays m (Derive name base how) =
       given_keeps (Kept m) m (λ r. refl) _ _ _ (λ s is. given_keeps (Kept m) m (λ r. refl) _ _ _ (λ b js.
       unless_keeps (Kept m) m (λ r. refl) _ _ _ (unless_keeps (Kept m) m (λ r. refl) _ _ _ (changed m.sessions _ (λ t. refl)))))
+  session_stays m (Publish name line keep threshold) =
+      given_keeps (Kept m) m (λ r. refl) _ _ _ (λ s is. given_keeps (Kept m) m (λ r. refl) _ _ _ (λ h js. given_keeps (Kept m) m (λ r. refl) _ _ _ (λ source ks.
+      unless_keeps (Kept m) m (λ r. refl) _ _ _ (unless_keeps (Kept m) m (λ r. refl) _ _ _ (changed m.sessions _ (λ t. refl))))))
+  session_stays m (Unpublish line) =
+      given_keeps (Kept m) m (λ r. refl) _ _ _ (λ s is. given_keeps (Kept m) m (λ r. refl) _ _ _ (λ l js. unless_keeps (Kept m) m (λ r. refl) _ _ _ (refl)))
+  session_stays m (Get line name) =
+      given_keeps (Kept m) m (λ r. refl) _ _ _ (λ s is. given_keeps (Kept m) m (λ r. refl) _ _ _ (λ l js. unless_keeps (Kept m) m (λ r. refl) _ _ _ (unless_keeps (Kept m) m (λ r. refl) _ _ _ (
+      given_keeps (Kept m) m (λ r. refl) _ _ _ (λ snap ks. changed m.sessions _ (λ t. refl))))))
+  session_stays m (Checkout name target) =
+      given_keeps (Kept m) m (λ r. refl) _ _ _ (λ s is. given_keeps (Kept m) m (λ r. refl) _ _ _ (λ h js. given_keeps (Kept m) m (λ r. refl) _ _ _ (λ line ks.
+      given_keeps (Kept m) m (λ r. refl) _ _ _ (λ l ls. given_keeps (Kept m) m (λ r. refl) _ _ _ (λ snap ns. changed m.sessions _ (λ t. refl))))))
   session_stays m (Release name) =
       given_keeps (Kept m) m (λ r. refl) _ _ _ (λ s is. given_keeps (Kept m) m (λ r. refl) _ _ _ (λ h js. changed m.sessions _ (λ t. refl)))
   session_stays m Columns = refl
+  session_stays m Lines = refl
 
   -- what another caller's call leaves of what a caller holds
   pub held_stays : (m : State) (ask : Ask) → holds (step m other ask).1 who ≡ holds m who

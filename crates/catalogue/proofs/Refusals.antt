@@ -1,7 +1,7 @@
 -- A refused call leaves the state.
 use Rattle.std.proofs.Common.{◌≡◌, ℕ, refl}
 use Rattle.catalogue.specs.declared.ask.Ask.{Ask}
-use Rattle.catalogue.specs.declared.ask.Ask.TheVariants.{OpenSession, CloseSession, Peek, Place, Derive, Release, Columns}
+use Rattle.catalogue.specs.declared.ask.Ask.TheVariants.{OpenSession, CloseSession, Peek, Place, Derive, Publish, Unpublish, Get, Checkout, Release, Columns, Lines}
 use Rattle.catalogue.specs.declared.reply.Reply.TheVariants.{Refused}
 use Rattle.catalogue.specs.declared.reply.Refusal.{Refusal}
 use Rattle.catalogue.specs.State.{State}
@@ -25,5 +25,17 @@ module _ (m : State) where
   refusal_stays who (Derive name base how) =
       given_keeps Stays m left _ _ _ (λ s is. given_keeps Stays m left _ _ _ (λ b js.
       unless_keeps Stays m left _ _ _ (unless_keeps Stays m left _ _ _ (λ r e. absurd (cc)))))
+  refusal_stays who (Publish name line keep threshold) =
+      given_keeps Stays m left _ _ _ (λ s is. given_keeps Stays m left _ _ _ (λ h js. given_keeps Stays m left _ _ _ (λ source ks.
+      unless_keeps Stays m left _ _ _ (unless_keeps Stays m left _ _ _ (λ r e. absurd (cc))))))
+  refusal_stays who (Unpublish line) =
+      given_keeps Stays m left _ _ _ (λ s is. given_keeps Stays m left _ _ _ (λ l js. unless_keeps Stays m left _ _ _ (λ r e. absurd (cc))))
+  refusal_stays who (Get line name) =
+      given_keeps Stays m left _ _ _ (λ s is. given_keeps Stays m left _ _ _ (λ l js. unless_keeps Stays m left _ _ _ (unless_keeps Stays m left _ _ _ (
+      given_keeps Stays m left _ _ _ (λ snap ks r e. absurd (cc))))))
+  refusal_stays who (Checkout name target) =
+      given_keeps Stays m left _ _ _ (λ s is. given_keeps Stays m left _ _ _ (λ h js. given_keeps Stays m left _ _ _ (λ line ks.
+      given_keeps Stays m left _ _ _ (λ l ls. given_keeps Stays m left _ _ _ (λ snap ns r e. absurd (cc))))))
   refusal_stays who (Release name) = given_keeps Stays m left _ _ _ (λ s is. given_keeps Stays m left _ _ _ (λ h js r e. absurd (cc)))
   refusal_stays who Columns = λ r e. refl
+  refusal_stays who Lines = λ r e. refl

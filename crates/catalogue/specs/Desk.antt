@@ -9,7 +9,7 @@ use Rattle.graph_slots.proofs.More.{schema_stays}
 use Rattle.turn_hall.specs.declared.entry.Entry.{Entry}
 use Rattle.turn_hall.specs.Replay.{replay}
 use Rattle.catalogue.specs.declared.ask.Ask.{Ask}
-use Rattle.catalogue.specs.declared.ask.Ask.TheVariants.{OpenSession, CloseSession, Peek, Place, Derive, Release, Columns}
+use Rattle.catalogue.specs.declared.ask.Ask.TheVariants.{OpenSession, CloseSession, Peek, Place, Derive, Publish, Unpublish, Get, Checkout, Release, Columns, Lines}
 use Rattle.catalogue.specs.declared.ask.How.{How}
 use Rattle.catalogue.specs.declared.ask.How.TheVariants.{Mutate}
 use Rattle.catalogue.specs.declared.ask.Mutation.TheVariants.{Clone}
@@ -70,8 +70,20 @@ module _ (m : State) where
   opening_stays who (Derive name base how) =
       given_keeps Opens m (λ r. refl) _ _ _ (λ s is. given_keeps Opens m (λ r. refl) _ _ _ (λ b js.
       unless_keeps Opens m (λ r. refl) _ _ _ (unless_keeps Opens m (λ r. refl) _ _ _ refl)))
+  opening_stays who (Publish name line keep threshold) =
+      given_keeps Opens m (λ r. refl) _ _ _ (λ s is. given_keeps Opens m (λ r. refl) _ _ _ (λ h js. given_keeps Opens m (λ r. refl) _ _ _ (λ source ks.
+      unless_keeps Opens m (λ r. refl) _ _ _ (unless_keeps Opens m (λ r. refl) _ _ _ (refl)))))
+  opening_stays who (Unpublish line) =
+      given_keeps Opens m (λ r. refl) _ _ _ (λ s is. given_keeps Opens m (λ r. refl) _ _ _ (λ l js. unless_keeps Opens m (λ r. refl) _ _ _ (refl)))
+  opening_stays who (Get line name) =
+      given_keeps Opens m (λ r. refl) _ _ _ (λ s is. given_keeps Opens m (λ r. refl) _ _ _ (λ l js. unless_keeps Opens m (λ r. refl) _ _ _ (unless_keeps Opens m (λ r. refl) _ _ _ (
+      given_keeps Opens m (λ r. refl) _ _ _ (λ snap ks. refl)))))
+  opening_stays who (Checkout name target) =
+      given_keeps Opens m (λ r. refl) _ _ _ (λ s is. given_keeps Opens m (λ r. refl) _ _ _ (λ h js. given_keeps Opens m (λ r. refl) _ _ _ (λ line ks.
+      given_keeps Opens m (λ r. refl) _ _ _ (λ l ls. given_keeps Opens m (λ r. refl) _ _ _ (λ snap ns. refl)))))
   opening_stays who (Release name) = given_keeps Opens m (λ r. refl) _ _ _ (λ s is. given_keeps Opens m (λ r. refl) _ _ _ (λ h js. refl))
   opening_stays who Columns = refl
+  opening_stays who Lines = refl
 
   same : IsRaised m m
   same = record { sids = omega arith; columns = omega arith }
@@ -96,9 +108,21 @@ module _ (m : State) where
       given_keeps Up m (λ r. same) _ _ _ (λ s is. given_keeps Up m (λ r. same) _ _ _ (λ b js.
       unless_keeps Up m (λ r. same) _ _ _ (unless_keeps Up m (λ r. same) _ _ _
       (record { sids = omega arith; columns = omega (arith, few_derived how) }))))
+  step_raises who (Publish name line keep threshold) small =
+      given_keeps Up m (λ r. same) _ _ _ (λ s is. given_keeps Up m (λ r. same) _ _ _ (λ h js. given_keeps Up m (λ r. same) _ _ _ (λ source ks.
+      unless_keeps Up m (λ r. same) _ _ _ (unless_keeps Up m (λ r. same) _ _ _ (record { sids = omega arith; columns = omega arith })))))
+  step_raises who (Unpublish line) small =
+      given_keeps Up m (λ r. same) _ _ _ (λ s is. given_keeps Up m (λ r. same) _ _ _ (λ l js. unless_keeps Up m (λ r. same) _ _ _ (record { sids = omega arith; columns = omega arith })))
+  step_raises who (Get line name) small =
+      given_keeps Up m (λ r. same) _ _ _ (λ s is. given_keeps Up m (λ r. same) _ _ _ (λ l js. unless_keeps Up m (λ r. same) _ _ _ (unless_keeps Up m (λ r. same) _ _ _ (
+      given_keeps Up m (λ r. same) _ _ _ (λ snap ks. record { sids = omega arith; columns = omega arith })))))
+  step_raises who (Checkout name target) small =
+      given_keeps Up m (λ r. same) _ _ _ (λ s is. given_keeps Up m (λ r. same) _ _ _ (λ h js. given_keeps Up m (λ r. same) _ _ _ (λ line ks.
+      given_keeps Up m (λ r. same) _ _ _ (λ l ls. given_keeps Up m (λ r. same) _ _ _ (λ snap ns. record { sids = omega arith; columns = omega arith })))))
   step_raises who (Release name) small =
       given_keeps Up m (λ r. same) _ _ _ (λ s is. given_keeps Up m (λ r. same) _ _ _ (λ h js. record { sids = omega arith; columns = omega arith }))
   step_raises who Columns small = same
+  step_raises who Lines small = same
 
 module _ (m : State) (small : HasSmall m) where
   abbrev Small : Answer → Type 0
@@ -114,8 +138,20 @@ module _ (m : State) (small : HasSmall m) where
   step_small who (Derive name base how) =
       given_keeps Small m (λ r. small) _ _ _ (λ s is. given_keeps Small m (λ r. small) _ _ _ (λ b js.
       unless_keeps Small m (λ r. small) _ _ _ (unless_keeps Small m (λ r. small) _ _ _ small)))
+  step_small who (Publish name line keep threshold) =
+      given_keeps Small m (λ r. small) _ _ _ (λ s is. given_keeps Small m (λ r. small) _ _ _ (λ h js. given_keeps Small m (λ r. small) _ _ _ (λ source ks.
+      unless_keeps Small m (λ r. small) _ _ _ (unless_keeps Small m (λ r. small) _ _ _ (small)))))
+  step_small who (Unpublish line) =
+      given_keeps Small m (λ r. small) _ _ _ (λ s is. given_keeps Small m (λ r. small) _ _ _ (λ l js. unless_keeps Small m (λ r. small) _ _ _ (small)))
+  step_small who (Get line name) =
+      given_keeps Small m (λ r. small) _ _ _ (λ s is. given_keeps Small m (λ r. small) _ _ _ (λ l js. unless_keeps Small m (λ r. small) _ _ _ (unless_keeps Small m (λ r. small) _ _ _ (
+      given_keeps Small m (λ r. small) _ _ _ (λ snap ks. small)))))
+  step_small who (Checkout name target) =
+      given_keeps Small m (λ r. small) _ _ _ (λ s is. given_keeps Small m (λ r. small) _ _ _ (λ h js. given_keeps Small m (λ r. small) _ _ _ (λ line ks.
+      given_keeps Small m (λ r. small) _ _ _ (λ l ls. given_keeps Small m (λ r. small) _ _ _ (λ snap ns. small)))))
   step_small who (Release name) = given_keeps Small m (λ r. small) _ _ _ (λ s is. given_keeps Small m (λ r. small) _ _ _ (λ h js. small))
   step_small who Columns = small
+  step_small who Lines = small
 
 -- along a history
 raised_then : (a b c : State) → IsRaised a b → (k : ℕ) → (c.next_sid ≤ b.next_sid + k) × (c.next_column + 2208 * b.next_sid ≤ b.next_column + 2208 * c.next_sid)

@@ -1,9 +1,9 @@
 -- What is handed out beside a reply.
 use Rattle.std.specs.Prelude.{ℕ, Option, Some, None, option_and_then}
 use Rattle.catalogue.specs.declared.ask.Ask.{Ask}
-use Rattle.catalogue.specs.declared.ask.Ask.TheVariants.{OpenSession, CloseSession, Peek, Place, Derive, Release, Columns as Lists}
+use Rattle.catalogue.specs.declared.ask.Ask.TheVariants.{OpenSession, CloseSession, Peek, Place, Derive, Publish, Unpublish, Get, Checkout, Release, Columns as ListColumns, Lines as ListLines}
 use Rattle.catalogue.specs.declared.reply.Reply.{Reply}
-use Rattle.catalogue.specs.declared.reply.Reply.TheVariants.{Done, Front, Sid, Columns, Refused}
+use Rattle.catalogue.specs.declared.reply.Reply.TheVariants.{Done, Front, Sid, Columns, Lines, Refused}
 use Rattle.catalogue.specs.declared.call.Gift.{Gift}
 use Rattle.catalogue.specs.declared.call.Gift.TheVariants as gift
 use Rattle.catalogue.specs.declared.parts.Source.{Source}
@@ -29,6 +29,7 @@ peek_gift from (Front n) = source_gift from
 peek_gift from Done = gift.Nothing
 peek_gift from (Sid n) = gift.Nothing
 peek_gift from (Columns numbers) = gift.Nothing
+peek_gift from (Lines lines) = gift.Nothing
 peek_gift from (Refused refusal) = gift.Nothing
 
 -- beside the reply to a call that brings a graph: its snapshot, where a snapshot id was told
@@ -37,6 +38,7 @@ graph_gift held (Sid n) = snap_gift held
 graph_gift held Done = gift.Nothing
 graph_gift held (Front n) = gift.Nothing
 graph_gift held (Columns numbers) = gift.Nothing
+graph_gift held (Lines lines) = gift.Nothing
 graph_gift held (Refused refusal) = gift.Nothing
 
 -- read from the state after the call: the source for a front, the snapshot held under the name for a snapshot id
@@ -46,5 +48,10 @@ gift_of m who CloseSession reply = gift.Nothing
 gift_of m who (Peek source) reply = peek_gift (source_of m source) reply
 gift_of m who (Place name source front) reply = graph_gift (held_under m who name) reply
 gift_of m who (Derive name base how) reply = graph_gift (held_under m who name) reply
+gift_of m who (Publish name line keep threshold) reply = gift.Nothing
+gift_of m who (Unpublish line) reply = gift.Nothing
+gift_of m who (Get line name) reply = graph_gift (held_under m who name) reply
+gift_of m who (Checkout name target) reply = graph_gift (held_under m who name) reply
 gift_of m who (Release name) reply = gift.Nothing
-gift_of m who Lists reply = gift.Nothing
+gift_of m who ListColumns reply = gift.Nothing
+gift_of m who ListLines reply = gift.Nothing

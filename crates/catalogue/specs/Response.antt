@@ -1,13 +1,13 @@
 -- How a call ends.
-use Rattle.std.specs.Prelude.{◌≡◌, ◌≢◌, ℕ, Result, Ok, Err, ⊤}
+use Rattle.std.specs.Prelude.{◌≡◌, ℕ, Result, Ok, Err, ⊤}
 use Rattle.column_types.specs.declared.fault.NoMemory.{NoMemory}
 use Rattle.catalogue.specs.declared.ask.Ask.{Ask}
-use Rattle.catalogue.specs.declared.ask.Ask.TheVariants.{OpenSession, CloseSession, Peek, Place, Derive, Release, Columns as Lists}
+use Rattle.catalogue.specs.declared.ask.Ask.TheVariants.{OpenSession, CloseSession, Peek, Place, Derive, Publish, Unpublish, Get, Checkout, Release, Columns as ListColumns, Lines as ListLines}
 use Rattle.catalogue.specs.declared.call.Gift.TheVariants as gift
 use Rattle.catalogue.specs.declared.reply.Reply.{Reply}
-use Rattle.catalogue.specs.declared.reply.Reply.TheVariants.{Done, Front, Sid, Columns, Refused}
+use Rattle.catalogue.specs.declared.reply.Reply.TheVariants.{Done, Front, Sid, Columns, Lines, Refused}
 use Rattle.catalogue.specs.declared.reply.Refusal.{Refusal}
-use Rattle.catalogue.specs.declared.reply.Refusal.TheVariants.{SessionsFull, NoSource, NameTaken, GraphsFull, NoName, NotVisible, NotOpen, AlreadyOpen}
+use Rattle.catalogue.specs.declared.reply.Refusal.TheVariants.{SessionsFull, NoSource, NameTaken, GraphsFull, NoName, NotPrivate, LineTaken, LinesFull, NoLine, NotOwner, NoSnapshot, NotVisible, NotPinned, NotOpen, AlreadyOpen}
 use Rattle.catalogue.specs.declared.response.Fault.{Fault}
 use Rattle.catalogue.specs.declared.response.Fault.TheVariants as fault
 use Rattle.catalogue.specs.declared.response.Response.{Response}
@@ -32,35 +32,44 @@ refusal_response r = record { kept = Refused r; reply = Refused r; gift = gift.N
 abbrev pub sid_response : Snap → Response
 sid_response snap = record { kept = Sid snap.sid; reply = Sid snap.sid; gift = gift.Snap snap }
 
--- this refusal; memory may run out anywhere
-abbrev pub IsRefusal : Refusal → Fault → Type 0
-IsRefusal r (fault.Refused q) = q ≡ r
-IsRefusal r fault.NoMemory = ⊤
-
--- the refusal is told, or memory ran out
-abbrev pub TellsRefusal : Fault → Result Response NoMemory → Type 0
-TellsRefusal (fault.Refused r) (Ok response) = response ≡ refusal_response r
-TellsRefusal (fault.Refused r) (Err e) = ⊤
-TellsRefusal fault.NoMemory (Ok response) = ⊥
-TellsRefusal fault.NoMemory (Err e) = ⊤
-
--- whether the tests of a call take memory where this is its answer: a refusal takes some where it hands on a name; where the call
--- is just done they take none; else they may take some, for what the reply tells or brings
+-- a refusal takes memory where it hands on a name
 abbrev pub RefusalTakesMemory : Refusal → Type 0
 RefusalTakesMemory SessionsFull = ⊥
 RefusalTakesMemory (NoSource name) = ⊤
 RefusalTakesMemory (NameTaken name) = ⊤
 RefusalTakesMemory GraphsFull = ⊥
 RefusalTakesMemory (NoName name) = ⊤
+RefusalTakesMemory (NotPrivate name) = ⊤
+RefusalTakesMemory (LineTaken name) = ⊤
+RefusalTakesMemory LinesFull = ⊥
+RefusalTakesMemory (NoLine name) = ⊤
+RefusalTakesMemory (NotOwner name) = ⊤
+RefusalTakesMemory (NoSnapshot n) = ⊥
 RefusalTakesMemory (NotVisible n) = ⊥
+RefusalTakesMemory (NotPinned name) = ⊤
 RefusalTakesMemory NotOpen = ⊥
 RefusalTakesMemory AlreadyOpen = ⊥
 
+-- this refusal, or memory ran out for the name that it hands on
+abbrev pub IsRefusal : Refusal → Fault → Type 0
+IsRefusal r (fault.Refused q) = q ≡ r
+IsRefusal r fault.NoMemory = ⊤
+
+-- the refusal is told; memory may run out for a name that it hands on
+abbrev pub TellsRefusal : Fault → Result Response NoMemory → Type 0
+TellsRefusal (fault.Refused r) (Ok response) = response ≡ refusal_response r
+TellsRefusal (fault.Refused r) (Err e) = RefusalTakesMemory r
+TellsRefusal fault.NoMemory (Ok response) = ⊥
+TellsRefusal fault.NoMemory (Err e) = ⊤
+
+-- whether the tests of a call take memory where this is its answer: where the call is just done they take none; else they may take
+-- some, for what the reply tells or brings
 abbrev pub TakesMemory : Reply → Type 0
 TakesMemory Done = ⊥
 TakesMemory (Front n) = ⊤
 TakesMemory (Sid n) = ⊤
 TakesMemory (Columns numbers) = ⊤
+TakesMemory (Lines lines) = ⊤
 TakesMemory (Refused r) = RefusalTakesMemory r
 
 -- the tests of a call end with what it goes on with, or with the step's refusal; memory runs out only where the answer takes some
@@ -74,7 +83,7 @@ abbrev pub TestsSurely : {X : Type 0} → State → Answer → (X → Answer) �
 TestsSurely m answer next (Ok x) = answer ≡ next x
 TestsSurely m answer next (Err r) = answer ≡ (Refused r, m)
 
--- ---- calls that take no memory where they are done
+-- ---- where memory may run out
 
 -- a call that gives up graphs
 abbrev pub GivesUp : Ask → Type 0
@@ -83,9 +92,22 @@ GivesUp CloseSession = ⊤
 GivesUp (Peek source) = ⊥
 GivesUp (Place name source front) = ⊥
 GivesUp (Derive name base how) = ⊥
+GivesUp (Publish name line keep threshold) = ⊥
+GivesUp (Unpublish line) = ⊤
+GivesUp (Get line name) = ⊥
+GivesUp (Checkout name target) = ⊥
 GivesUp (Release name) = ⊤
-GivesUp Lists = ⊥
+GivesUp ListColumns = ⊥
+GivesUp ListLines = ⊥
 
--- memory does not run out in a call that gives up graphs and is done
+-- a call with this answer may run out of memory: not where it gives up graphs and is done, and not where it is refused without a name
+abbrev pub MayRunOut : Ask → Reply → Type 0
+MayRunOut ask Done = GivesUp ask → ⊥
+MayRunOut ask (Front n) = ⊤
+MayRunOut ask (Sid n) = ⊤
+MayRunOut ask (Columns numbers) = ⊤
+MayRunOut ask (Lines lines) = ⊤
+MayRunOut ask (Refused r) = RefusalTakesMemory r
+
 abbrev pub RunsOut : State → ℕ → Ask → Type 0
-RunsOut m who ask = GivesUp ask → (step m who ask).0 ≢ Done
+RunsOut m who ask = MayRunOut ask (step m who ask).0

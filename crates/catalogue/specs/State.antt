@@ -1,12 +1,16 @@
 -- The shared state.
-use Rattle.std.specs.Prelude.{ℕ, Bool, ◌==◌, ◌++◌, List, [], ◌∷◌, Option, Some, None, find, map, fold, count_by, flat_map, if◌then◌else◌}
+use Rattle.std.specs.Prelude.{ℕ, ◌-◌, Bool, ◌==◌, ◌++◌, List, [], ◌∷◌, Option, Some, None, length, slice_get, find, map, fold, count_by, flat_map, if◌then◌else◌}
 use Rattle.std.specs.List.{list_any}
 use Rattle.std.specs.Ordering.{nat_cmp}
 use Rattle.std.specs.BTreeSet.{insert_key}
 use Rattle.std.specs.Str.{bytes_eq}
+use Rattle.catalogue.specs.declared.ask.Target.{Target}
+use Rattle.catalogue.specs.declared.ask.Target.TheVariants as target
 use Rattle.catalogue.specs.declared.parts.Source.{Source}
 use Rattle.catalogue.specs.declared.parts.Snap.{Snap}
 use Rattle.catalogue.specs.declared.parts.Line.{Line}
+use Rattle.catalogue.specs.declared.parts.Hold.{Hold}
+use Rattle.catalogue.specs.declared.parts.Hold.TheVariants.{Private, Pin}
 use Rattle.catalogue.specs.declared.parts.Held.{Held}
 use Rattle.catalogue.specs.declared.parts.Session.{Session}
 
@@ -35,12 +39,19 @@ from_source n s = bytes_eq s.data.name n
 abbrev pub named : Name → Held → Bool
 named n h = bytes_eq h.name n
 
+-- the published graph of a name
+abbrev pub from_line : Name → Line → Bool
+from_line n l = bytes_eq l.name n
+
 -- the caller's session, the source of a name, and the graph that a session holds under a name
 abbrev pub session_of : State → ℕ → Option Session
 session_of m who = find (of_who who) m.sessions
 
 abbrev pub source_of : State → Name → Option Source
 source_of m n = find (from_source n) m.sources
+
+abbrev pub line_of : State → Name → Option Line
+line_of m n = find (from_line n) m.lines
 
 abbrev pub held_of : Session → Name → Option Held
 held_of s n = find (named n) s.held
@@ -52,6 +63,33 @@ held_in (Some s) = s.held
 
 abbrev pub holds : State → ℕ → List Held
 holds m who = held_in (session_of m who)
+
+-- ---- snapshots of a published graph, oldest first
+
+-- the one that came last
+abbrev pub latest : List Snap → Option Snap
+latest snaps = slice_get snaps (length snaps - 1)
+
+-- the one with an id
+abbrev pub of_sid : ℕ → Snap → Bool
+of_sid sid s = s.sid == sid
+
+-- the one that is asked for
+abbrev pub snap_at : Target → List Snap → Option Snap
+snap_at (target.Sid sid) snaps = find (of_sid sid) snaps
+snap_at target.Latest snaps = latest snaps
+
+-- ---- how a session holds a graph
+
+-- for itself: the source that it was placed from, or none; else as a pin
+abbrev pub private_source : Hold → Option (Option Name)
+private_source (Private source) = Some source
+private_source (Pin line) = None
+
+-- as a pin: the name of its published graph; else for itself
+abbrev pub pinned_line : Hold → Option Name
+pinned_line (Private source) = None
+pinned_line (Pin line) = Some line
 
 -- ---- changes of lists
 

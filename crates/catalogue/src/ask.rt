@@ -24,12 +24,45 @@ pub enum Ask {
         base: Text,
         how: How,
     },
+    /// Publishes a graph that the session holds for itself, under the name `line`; the session then holds it as a pin. `keep` tells how
+    /// many of its last snapshots are kept, and `threshold` how many changes it may fall behind its source.
+    Publish {
+        name: Text,
+        line: Text,
+        keep: u32,
+        threshold: u64,
+    },
+    /// Takes back a graph that the caller has published. Pins of it stay.
+    Unpublish {
+        line: Text,
+    },
+    /// A pin of the latest snapshot of a published graph.
+    Get {
+        line: Text,
+        name: Text,
+    },
+    /// Moves a pin to another snapshot of its published graph.
+    Checkout {
+        name: Text,
+        target: Target,
+    },
     /// Gives up a graph of the session.
     Release {
         name: Text,
     },
     /// The numbers of all columns that are in use.
     Columns,
+    /// All published graphs.
+    Lines,
+}
+
+/// Which snapshot of a published graph.
+#[derive(Clone, Debug, Drop, PartialEq, Eq)]
+pub enum Target {
+    /// The one with this id.
+    Sid(u64),
+    /// The one that came last.
+    Latest,
 }
 
 /// How a graph is derived.

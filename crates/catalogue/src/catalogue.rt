@@ -6,7 +6,7 @@ ghost use Rattle.graph_slots.specs.Slots.{slots};
 ghost use Rattle.catalogue.specs.declared.ask.Ask.{Ask};
 ghost use Rattle.catalogue.specs.declared.parts.Session.{Session as SessionData};
 ghost use Rattle.catalogue.specs.declared.reply.Reply.TheVariants.{Sid, Done};
-ghost use Rattle.catalogue.specs.State.{named, of_who, session_of, source_of, change_first, roots, drop_first, reach, count};
+ghost use Rattle.catalogue.specs.State.{named, of_who, session_of, source_of, line_of, change_first, roots, drop_first, reach, count};
 ghost use Rattle.catalogue.specs.Step.{step, hold_more, let_go, placed, derived, new_columns, private_graph, drawn, with_one_more, without_session, with_session};
 ghost use Rattle.catalogue.specs.Bound.{unfed, opened, HasSmall, IsReady, NamesDiffer};
 ghost use Rattle.catalogue.specs.Kept.{IsKept, MayHold};
@@ -16,7 +16,8 @@ ghost use Rattle.catalogue.specs.Registry.{Comes, HasParts};
 ghost use Rattle.catalogue.specs.Response.{IsServed, RunsOut, Tests, TestsSurely, sid_response};
 
 use crate::columns::{count_columns, listed, release_graphs, release_snap, shared_parts};
-use crate::response::{Fault, Response, done, name_taken, no_name, no_source, refused};
+use crate::lines::Lines;
+use crate::response::{Fault, Response, came, done, name_taken, no_name, no_source, refused};
 use crate::sessions::{Sessions, held_as};
 use crate::sources::Sources;
 use crate::{
@@ -32,17 +33,17 @@ use std::marker::Model;
 const MOST_SESSIONS: usize = 64;
 
 /// The most graphs of a session.
-const MOST_HELD: usize = 256;
+pub(crate) const MOST_HELD: usize = 256;
 
 /// The sources, the published graphs and the sessions with the graphs that they hold. What it keeps is `IsKept`.
 #[derive(Drop)]
 pub struct Catalogue {
-    sources: Sources,
-    lines: List<Line>,
-    sessions: Sessions,
-    next_sid: u64,
-    next_column: u64,
-    registry: Registry<Part>,
+    pub(crate) sources: Sources,
+    pub(crate) lines: Lines,
+    pub(crate) sessions: Sessions,
+    pub(crate) next_sid: u64,
+    pub(crate) next_column: u64,
+    pub(crate) registry: Registry<Part>,
 }
 
 impl Model for Catalogue {
@@ -99,7 +100,7 @@ impl Catalogue {
         let sources = Sources::unfed(alloc, sources.as_slice())?;
         Ok(Catalogue {
             sources,
-            lines: List::new(alloc),
+            lines: Lines::new(alloc),
             sessions: Sessions::new(alloc),
             next_sid: 1,
             next_column: 1,
@@ -122,7 +123,7 @@ impl Catalogue {
     }
 
     /// The session of the caller.
-    fn session(&self, who: u32) -> Option<&Session>
+    pub(crate) fn session(&self, who: u32) -> Option<&Session>
         ensures { option_copied result ≡ session_of self.now who }
     {
         self.sessions.of(who)
@@ -133,6 +134,13 @@ impl Catalogue {
         ensures { option_copied result ≡ source_of self.now name.now }
     {
         self.sources.named(name)
+    }
+
+    /// The published graph of that name.
+    pub(crate) fn line(&self, name: &Text) -> Option<&Line>
+        ensures { option_copied result ≡ line_of self.now name.now }
+    {
+        self.lines.named(name)
     }
 
     // ---- sessions
@@ -155,6 +163,7 @@ impl Catalogue {
     pub(crate) fn open_session(&mut self, alloc: Global, who: u32) -> Result<Response, NoMemory>
         ensures ok { IfOk result (IsServed self.old who Ask.OpenSession self.new) }
         ensures err { OnErr result (self.new ≡ self.old) }
+        ensures surely { OnErr result (RunsOut self.old who Ask.OpenSession) }
     {
         match self.test_open(who) {
             Ok(()) => {
@@ -195,7 +204,8 @@ impl Catalogue {
 
     #[tactic(auto, unfolding(crate::specs::Step::given))]
     pub(crate) fn peek(&self, alloc: Global, source: &Text) -> Result<Response, NoMemory>
-        ensures { IfOk result (λ r. (who : ℕ) → IsServed self.now who (Ask.Peek source.now) self.now r) }
+        ensures ok { IfOk result (λ r. (who : ℕ) → IsServed self.now who (Ask.Peek source.now) self.now r) }
+        ensures surely { OnErr result ((who : ℕ) → RunsOut self.now who (Ask.Peek source.now)) }
     {
         match self.source(source) {
             Some(from) => {
@@ -322,7 +332,6 @@ impl Catalogue {
         ensures ok { IfOk result (λ r. (r ≡ sid_response held.snap) × (self.new ≡ drawn self.old who held (length new))) }
         ensures err { OnErr result (self.new ≡ self.old) }
     {
-        let sid = held.snap.get().sid;
         let gift = held.snap.share()?;
         let count = new.len() as u32;
         self.registry.reserve(count)?;
@@ -330,11 +339,7 @@ impl Catalogue {
         count_columns(&mut self.registry, kept, self.next_column, new);
         self.next_sid += 1;
         self.next_column += count as u64;
-        Ok(Response {
-            kept: Reply::Sid(sid),
-            reply: Reply::Sid(sid),
-            gift: Gift::Snap(gift),
-        })
+        Ok(came(gift))
     }
 
     pub(crate) fn place(
@@ -348,6 +353,7 @@ impl Catalogue {
         requires { IsReady self.old }
         ensures ok { IfOk result (IsServed self.old who (Ask.Place name.now source.now front) self.new) }
         ensures err { OnErr result (self.new ≡ self.old) }
+        ensures surely { OnErr result (RunsOut self.old who (Ask.Place name.now source.now front)) }
     {
         match self.snap_to_place(alloc, who, name, source, front) {
             Ok(snap) => {
@@ -370,6 +376,7 @@ impl Catalogue {
         requires { IsReady self.old }
         ensures ok { IfOk result (IsServed self.old who (Ask.Derive name.now base.now how.now) self.new) }
         ensures err { OnErr result (self.new ≡ self.old) }
+        ensures surely { OnErr result (RunsOut self.old who (Ask.Derive name.now base.now how.now)) }
     {
         match self.snap_to_derive(alloc, who, name, base, how) {
             Ok(snap) => {

@@ -7,7 +7,7 @@ ghost use Rattle.catalogue.specs.Registry.{new_rows, AreCounted, AreReleased};
 
 use crate::{Held, Snap};
 use column_reclaim::{Registry, RegistryRow};
-use column_types::{List, NoMemory};
+use column_types::{List, NoMemory, Shared};
 use graph_slots::Part;
 use graph_snap::Snapshot;
 use std::alloc::Global;
@@ -56,6 +56,15 @@ pub(crate) fn count_columns(
     add_parts(registry, first, new);
 }
 
+/// Counts the columns of a snapshot that comes and has no new ones. It takes no memory.
+pub(crate) fn retain_snap(registry: &mut Registry<Part>, snap: &Snap)
+    requires listed { All (IsListed registry.old.rows) snap.now.columns }
+    requires room { All (λ r. r.count + times r.id snap.now.columns < 2 ^ 64) registry.old.rows }
+    ensures { registry.new.rows ≡ raised snap.now.columns registry.old.rows }
+{
+    registry.retain(snap.columns.as_slice());
+}
+
 /// Gives up the columns of a snapshot that goes. It takes no memory.
 pub(crate) fn release_snap(registry: &mut Registry<Part>, snap: &Snap)
     requires { AreCounted registry.old.rows (snap.now ∷ []) }
@@ -71,6 +80,16 @@ pub(crate) fn release_graphs(registry: &mut Registry<Part>, held: &[Held])
 {
     for graph in held {
         release_snap(registry, graph.snap.get());
+    }
+}
+
+/// Gives up the columns of snapshots that go. It takes no memory.
+pub(crate) fn release_snaps(registry: &mut Registry<Part>, snaps: &[Shared<Snap>])
+    requires { AreCounted registry.old.rows snaps.now }
+    ensures { AreReleased registry.old.rows snaps.now registry.new.rows }
+{
+    for snap in snaps {
+        release_snap(registry, snap.get());
     }
 }
 

@@ -32,8 +32,18 @@ fn respond(
             front,
         } => catalogue.place(alloc, who, name, source, *front),
         Ask::Derive { name, base, how } => catalogue.derive(alloc, who, name, base, how),
+        Ask::Publish {
+            name,
+            line,
+            keep,
+            threshold,
+        } => catalogue.publish(alloc, who, name, line, *keep, *threshold),
+        Ask::Unpublish { line } => catalogue.unpublish(alloc, who, line),
+        Ask::Get { line, name } => catalogue.get(alloc, who, line, name),
+        Ask::Checkout { name, target } => catalogue.check_out(alloc, who, name, target),
         Ask::Release { name } => catalogue.release(alloc, who, name),
         Ask::Columns => catalogue.columns(alloc),
+        Ask::Lines => catalogue.list_lines(alloc),
     }
 }
 
@@ -72,7 +82,7 @@ impl Desk for Catalogue {
 
     ghost short = { λ m who ask before after. ⊤ };
 
-    /// Answers a call by `step`. Where memory runs out the state is as before; it does not where graphs are given up.
+    /// Answers a call by `step`. Where memory runs out the state is as before; it does not where graphs are given up, nor where a refusal hands on no name.
     fn serve<L: Ledger>(
         &mut self,
         alloc: Global,

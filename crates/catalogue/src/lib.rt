@@ -18,7 +18,9 @@
 //! a session holds changes by its own calls alone, an id names one snapshot, what was placed is a prefix of its source's
 //! changes, the columns in use are listed, and refusals leave the state.
 //!
-//! Today no call publishes a graph or feeds a source, so there are no published graphs and no changes to be seen.
+//! A session publishes a graph as a *line*, and others hold *pins* of its snapshots: a pin knows its line by name alone, and stays as
+//! it is until its session moves it or gives it up. Today no call feeds a source, so no changes are to be seen, and a line has the one
+//! snapshot with which it was published.
 #![tactic(auto)]
 
 mod ask;
@@ -27,13 +29,15 @@ mod catalogue;
 mod columns;
 mod desk;
 mod laws;
+mod lines;
 mod parts;
+mod publishing;
 mod reply;
 mod response;
 mod sessions;
 mod sources;
 
-pub use ask::{Ask, How, Mutation};
+pub use ask::{Ask, How, Mutation, Target};
 pub use call::{Call, Gift, Made};
 pub use catalogue::Catalogue;
 pub use laws::{
@@ -41,4 +45,4 @@ pub use laws::{
     refusals_leave_the_state, the_columns_in_use_are_listed,
 };
 pub use parts::{Held, Hold, Line, Session, Snap, Source, SourceData};
-pub use reply::{Refusal, Reply};
+pub use reply::{LineInfo, Refusal, Reply};

@@ -1,10 +1,10 @@
 //! How a call ends.
-ghost use Rattle.std.specs.Prelude.{◌≡◌};
-ghost use Rattle.catalogue.specs.declared.reply.Refusal.TheVariants.{NoSource, NameTaken, NoName};
-ghost use Rattle.catalogue.specs.Response.{TellsRefusal, IsRefusal, done_response};
+ghost use Rattle.std.specs.Prelude.{◌≡◌, IfOk, OnErr};
+ghost use Rattle.catalogue.specs.declared.reply.Refusal.TheVariants.{NoSource, NameTaken, NoName, NotPrivate, LineTaken, NoLine, NotOwner, NotPinned};
+ghost use Rattle.catalogue.specs.Response.{TellsRefusal, IsRefusal, RefusalTakesMemory, done_response, sid_response};
 
-use crate::{Gift, Refusal, Reply};
-use column_types::{NoMemory, Text};
+use crate::{Gift, Refusal, Reply, Snap};
+use column_types::{NoMemory, Shared, Text};
 use std::alloc::Global;
 
 /// A reply with a copy of it for the book, and what is handed out beside it.
@@ -43,19 +43,52 @@ pub(crate) fn done() -> Response
     }
 }
 
+/// Tells the id of a snapshot that came, and hands it out. It takes no memory.
+pub(crate) fn came(snap: Shared<Snap>) -> Response
+    ensures { result ≡ sid_response snap }
+{
+    let sid = snap.get().sid;
+    Response {
+        kept: Reply::Sid(sid),
+        reply: Reply::Sid(sid),
+        gift: Gift::Snap(snap),
+    }
+}
+
+/// A copy of a refusal. Only a name takes memory.
+fn copied(refusal: &Refusal) -> Result<Refusal, NoMemory>
+    ensures ok { IfOk result (λ copy. copy ≡ refusal.now) }
+    ensures err { OnErr result (RefusalTakesMemory refusal.now) }
+{
+    Ok(match refusal {
+        Refusal::SessionsFull => Refusal::SessionsFull,
+        Refusal::NoSource(name) => Refusal::NoSource(name.clone()?),
+        Refusal::NameTaken(name) => Refusal::NameTaken(name.clone()?),
+        Refusal::GraphsFull => Refusal::GraphsFull,
+        Refusal::NoName(name) => Refusal::NoName(name.clone()?),
+        Refusal::NotPrivate(name) => Refusal::NotPrivate(name.clone()?),
+        Refusal::LineTaken(name) => Refusal::LineTaken(name.clone()?),
+        Refusal::LinesFull => Refusal::LinesFull,
+        Refusal::NoLine(name) => Refusal::NoLine(name.clone()?),
+        Refusal::NotOwner(name) => Refusal::NotOwner(name.clone()?),
+        Refusal::NoSnapshot(sid) => Refusal::NoSnapshot(*sid),
+        Refusal::NotVisible(front) => Refusal::NotVisible(*front),
+        Refusal::NotPinned(name) => Refusal::NotPinned(name.clone()?),
+        Refusal::NotOpen => Refusal::NotOpen,
+        Refusal::AlreadyOpen => Refusal::AlreadyOpen,
+    })
+}
+
 /// Tells the refusal, of which the book gets a copy.
 pub(crate) fn refused(fault: Fault) -> Result<Response, NoMemory>
     ensures { TellsRefusal fault result }
 {
     match fault {
-        Fault::Refused(refusal) => {
-            let kept = refusal.clone()?;
-            Ok(Response {
-                kept: Reply::Refused(kept),
-                reply: Reply::Refused(refusal),
-                gift: Gift::Nothing,
-            })
-        }
+        Fault::Refused(refusal) => Ok(Response {
+            kept: Reply::Refused(copied(&refusal)?),
+            reply: Reply::Refused(refusal),
+            gift: Gift::Nothing,
+        }),
         Fault::NoMemory => Err(NoMemory),
     }
 }
@@ -86,6 +119,56 @@ pub(crate) fn no_name(alloc: Global, name: &Text) -> Fault
 {
     match Text::from_str(alloc, name.as_str()) {
         Ok(name) => Fault::Refused(Refusal::NoName(name)),
+        Err(_) => Fault::NoMemory,
+    }
+}
+
+/// The refusal that hands on the name of a pin.
+pub(crate) fn not_private(alloc: Global, name: &Text) -> Fault
+    ensures { IsRefusal (NotPrivate name.now) result }
+{
+    match Text::from_str(alloc, name.as_str()) {
+        Ok(name) => Fault::Refused(Refusal::NotPrivate(name)),
+        Err(_) => Fault::NoMemory,
+    }
+}
+
+/// The refusal that hands on the name of a published graph.
+pub(crate) fn line_taken(alloc: Global, name: &Text) -> Fault
+    ensures { IsRefusal (LineTaken name.now) result }
+{
+    match Text::from_str(alloc, name.as_str()) {
+        Ok(name) => Fault::Refused(Refusal::LineTaken(name)),
+        Err(_) => Fault::NoMemory,
+    }
+}
+
+/// The refusal that hands on a name that no published graph has.
+pub(crate) fn no_line(alloc: Global, name: &Text) -> Fault
+    ensures { IsRefusal (NoLine name.now) result }
+{
+    match Text::from_str(alloc, name.as_str()) {
+        Ok(name) => Fault::Refused(Refusal::NoLine(name)),
+        Err(_) => Fault::NoMemory,
+    }
+}
+
+/// The refusal that hands on the name of a published graph of another caller.
+pub(crate) fn not_owner(alloc: Global, name: &Text) -> Fault
+    ensures { IsRefusal (NotOwner name.now) result }
+{
+    match Text::from_str(alloc, name.as_str()) {
+        Ok(name) => Fault::Refused(Refusal::NotOwner(name)),
+        Err(_) => Fault::NoMemory,
+    }
+}
+
+/// The refusal that hands on the name of a graph that is no pin.
+pub(crate) fn not_pinned(alloc: Global, name: &Text) -> Fault
+    ensures { IsRefusal (NotPinned name.now) result }
+{
+    match Text::from_str(alloc, name.as_str()) {
+        Ok(name) => Fault::Refused(Refusal::NotPinned(name)),
         Err(_) => Fault::NoMemory,
     }
 }

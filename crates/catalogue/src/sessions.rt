@@ -1,12 +1,12 @@
 //! The open sessions, with the graphs that they hold.
-ghost use Rattle.std.specs.Prelude.{◌≡◌, ◌≤◌, ◌++◌, [], ◌∷◌, OnOk, OnErr, length, find, position, Contains, option_and_then};
+ghost use Rattle.std.specs.Prelude.{◌≡◌, ◌≤◌, ◌++◌, [], ◌∷◌, OnOk, OnErr, length, find, position, Contains, option_and_then, option_map};
 ghost use Rattle.std.specs.Option.{option_copied};
 ghost use Rattle.catalogue.specs.declared.parts.Session.{Session as SessionData};
 ghost use Rattle.catalogue.specs.State.{named, of_who, held_of, change_first, drop_first};
-ghost use Rattle.catalogue.specs.Step.{hold_more, let_go};
+ghost use Rattle.catalogue.specs.Step.{hold_more, let_go, to_pin, to_snap, pin_as, move_to};
 
-use crate::{Held, Session};
-use column_types::{List, NoMemory, Text};
+use crate::{Held, Hold, Session, Snap};
+use column_types::{List, NoMemory, Shared, Text};
 use std::alloc::Global;
 use std::marker::Model;
 
@@ -54,6 +54,54 @@ fn hold(sessions: &mut List<Session>, who: u32, held: Held) -> Result<(), NoMemo
     match session_place(sessions.as_slice(), who) {
         Some(place) => sessions.as_mut_slice()[place].held.push(held),
         None => Ok(()),
+    }
+}
+
+/// Holds the graph of that name as a pin of a published graph.
+fn pin_held(held: &mut List<Held>, name: &Text, line: Text)
+    ensures { held.new ≡ change_first (named name.now) (to_pin line) held.old }
+{
+    if let Some(place) = held_place(held.as_slice(), name) {
+        held.as_mut_slice()[place].hold = Hold::Pin(line);
+    }
+}
+
+/// The session of the caller holds the graph of that name as a pin of a published graph.
+fn pin_in_session(sessions: &mut List<Session>, who: u32, name: &Text, line: Text)
+    ensures { sessions.new ≡ change_first (of_who who) (pin_as name.now line) sessions.old }
+{
+    if let Some(place) = session_place(sessions.as_slice(), who) {
+        pin_held(&mut sessions.as_mut_slice()[place].held, name, line);
+    }
+}
+
+/// Holds another snapshot under that name, and hands out the one before.
+fn move_held(held: &mut List<Held>, name: &Text, snap: Shared<Snap>) -> Option<Shared<Snap>>
+    ensures old { result ≡ option_map (λ h. h.snap) (find (named name.now) held.old) }
+    ensures new { held.new ≡ change_first (named name.now) (to_snap snap) held.old }
+{
+    match held_place(held.as_slice(), name) {
+        Some(place) => {
+            let graph = &mut held.as_mut_slice()[place];
+            Some(std::mem::replace(&mut graph.snap, snap))
+        }
+        None => None,
+    }
+}
+
+/// The session of the caller holds another snapshot under that name. The one before is handed out.
+fn move_in_session(
+    sessions: &mut List<Session>,
+    who: u32,
+    name: &Text,
+    snap: Shared<Snap>,
+) -> Option<Shared<Snap>>
+    ensures old { result ≡ option_map (λ h. h.snap) (option_and_then (λ s. held_of s name.now) (find (of_who who) sessions.old)) }
+    ensures new { sessions.new ≡ change_first (of_who who) (move_to name.now snap) sessions.old }
+{
+    match session_place(sessions.as_slice(), who) {
+        Some(place) => move_held(&mut sessions.as_mut_slice()[place].held, name, snap),
+        None => None,
     }
 }
 
@@ -158,5 +206,25 @@ impl Sessions {
         ensures rest { self.new ≡ change_first (of_who who) (let_go name.now) self.old }
     {
         let_go_of(&mut self.open, who, name)
+    }
+
+    /// The session of the caller holds the graph of that name as a pin of a published graph. It takes no memory.
+    pub(crate) fn pin_as(&mut self, who: u32, name: &Text, line: Text)
+        ensures { self.new ≡ change_first (of_who who) (pin_as name.now line) self.old }
+    {
+        pin_in_session(&mut self.open, who, name, line);
+    }
+
+    /// The session of the caller holds another snapshot under that name. The one before is handed out. It takes no memory.
+    pub(crate) fn move_to(
+        &mut self,
+        who: u32,
+        name: &Text,
+        snap: Shared<Snap>,
+    ) -> Option<Shared<Snap>>
+        ensures old { result ≡ option_map (λ h. h.snap) (option_and_then (λ s. held_of s name.now) (find (of_who who) self.old)) }
+        ensures new { self.new ≡ change_first (of_who who) (move_to name.now snap) self.old }
+    {
+        move_in_session(&mut self.open, who, name, snap)
     }
 }

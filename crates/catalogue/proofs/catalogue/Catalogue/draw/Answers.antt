@@ -48,4 +48,4 @@ invariant_of-self-2 c =
     }
 
 pub returns-clause-ok : goal.returns-clause-ok
-returns-clause-ok c = (rw (c.get.ensures, c.in_ok-gift.ensures) refl, rw (c.in_ok-hold.ensures.ok, c.len-count.ensures, ← c.self.view_is) refl)
+returns-clause-ok c = (rw (c.came.ensures, c.in_ok-gift.ensures) refl, rw (c.in_ok-hold.ensures.ok, c.len-count.ensures, ← c.self.view_is) refl)

@@ -1,0 +1,25 @@
+use Rattle.std.proofs.Common.{◌≡◌, ◌∙◌, ap, sym, subst, refl, None, Some}
+use Rattle.std.proofs.lemmas.Result.{IfOk-weaker}
+use Rattle.catalogue.specs.declared.ask.Ask.TheVariants.{Get}
+use Rattle.catalogue.specs.State.{State, held_of}
+use Rattle.catalogue.specs.Step.{with_session, hold_more}
+use Rattle.catalogue.specs.Kept.{MayPin}
+use Rattle.catalogue.specs.Gift.{held_under}
+use Rattle.catalogue.specs.Response.{IsServed}
+use Rattle.catalogue.proofs.Drawing.{held_pinned, came_served}
+use Rattle.catalogue.proofs.catalogue.Catalogue.get.Goals as goal
+
+pub returns-in-Ok-clause-ok : goal.returns-in-Ok-clause-ok
+returns-in-Ok-clause-ok c =
+    let m = c.args.self.now in
+    let who = c.args.who in
+    let name = c.args.name.now in
+    let h = c.in-Ok.held in
+    let may = c.in-Ok.ensures.may in
+    let n = with_session m who (hold_more h) in
+    let free : held_of may.session h.name ≡ None = ap (held_of may.session) may.named ∙ may.free in
+    let has : held_under n who name ≡ Some h = ap (held_under n who) (sym may.named) ∙ held_pinned m who h may.session may.is free in
+    IfOk-weaker c.hold_pin.result _ _
+    (λ r told. subst (λ (x : State). IsServed m who (Get c.args.line.now name) x r) (sym told.1)
+    (came_served m who (Get c.args.line.now name) name h n r c.in-Ok.ensures.tests has (λ s k. refl) told.0))
+    c.hold_pin.ensures.ok
