@@ -1,4 +1,0 @@
-pub mod Tables
-pub mod RowLines
-pub mod KeyEdges
-pub mod Printable

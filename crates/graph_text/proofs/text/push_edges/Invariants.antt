@@ -1,6 +1,0 @@
-use Rattle.std.proofs.Common.{◌≡◌, ◌++◌, take}
-use Rattle.graph_text.specs.Text.{by_tables, edge_line}
-use Rattle.graph_text.proofs.text.push_edges.Given as goal
-
-abbrev pub invariant-loop-table : goal.invariant-loop-table
-invariant-loop-table l = l.out ≡ l.fn.out ++ by_tables edge_line (take l.table l.on.schema.edges) l.on.edges

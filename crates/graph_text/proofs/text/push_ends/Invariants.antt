@@ -1,7 +1,0 @@
-use Rattle.std.proofs.Common.{◌≡◌, ◌++◌, take}
-use Rattle.std.specs.List.{enumerate_from}
-use Rattle.graph_text.specs.Text.{by_tables, ends_of_vertex}
-use Rattle.graph_text.proofs.text.push_ends.Given as goal
-
-abbrev pub invariant-loop-table : goal.invariant-loop-table
-invariant-loop-table l = l.out ≡ l.fn.out ++ by_tables (ends_of_vertex l.on) (take l.table (enumerate_from 0 l.on.schema.vertices)) l.on.vertices

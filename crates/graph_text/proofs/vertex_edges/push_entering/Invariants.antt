@@ -1,8 +1,0 @@
-use Rattle.std.proofs.Common.{◌≡◌, ◌++◌}
-use Rattle.std.specs.List.{flat_map, range_with_len}
-use Rattle.graph_text.specs.Ends.{entering_in}
-use Rattle.graph_text.specs.Text.{spaced_number}
-use Rattle.graph_text.proofs.vertex_edges.push_entering.Given as goal
-
-abbrev pub invariant-loop-table : goal.invariant-loop-table
-invariant-loop-table l = l.out ≡ l.fn.out ++ flat_map spaced_number (flat_map (entering_in l.on l.at.table l.key) (range_with_len 0 l.table))

@@ -1,8 +1,0 @@
-use Rattle.std.proofs.Common.{◌≡◌, ◌++◌, take}
-use Rattle.std.specs.List.{flat_map}
-use Rattle.graph_text.specs.Ends.{keys_at}
-use Rattle.graph_text.specs.Text.{spaced_number}
-use Rattle.graph_text.proofs.vertex_edges.push_keys.Given as goal
-
-abbrev pub invariant-loop-place : goal.invariant-loop-place
-invariant-loop-place l = l.out ≡ l.fn.out ++ flat_map spaced_number (keys_at l.keys (take l.place-index l.places))

@@ -1,0 +1,5 @@
+pub mod Tables
+pub mod RowLines
+pub mod KeyEdges
+pub mod Printable
+pub mod LinesTold

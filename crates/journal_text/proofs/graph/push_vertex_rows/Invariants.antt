@@ -1,0 +1,8 @@
+use Rattle.std.proofs.Common.{◌≡◌, ◌++◌, take}
+use Rattle.std.specs.List.{flat_map}
+use Rattle.graph_model.specs.Keys.{rows_at}
+use Rattle.journal_text.specs.Graphs.{vertex_line}
+use Rattle.journal_text.proofs.graph.push_vertex_rows.Given as goal
+
+abbrev pub invariant-loop-place : goal.invariant-loop-place
+invariant-loop-place l = l.out ≡ l.fn.out ++ flat_map (vertex_line l.shape) (take l.place (rows_at l.on.vertices l.table))
