@@ -1,6 +1,6 @@
 -- What is due at the words of a line, word by word, and the form of a line that has it.
 use Rattle.std.proofs.Common.{◌≡◌, ◌∙◌, sym, refl, ap, ℕ, suc, zero, ◌+◌, ◌<◌, ◌≤◌, add-one, List, [], ◌∷◌, length, map, drop, get_or, Bool, true, false, if◌then◌else◌, Option, Some, None, Result, Ok, Err, arith}
-use Rattle.std.specs.Prelude.{◌==◌, ◌&&◌, nat_lt, is_some, option_map}
+use Rattle.std.specs.Prelude.{◌==◌, ◌&&◌, ◌||◌, nat_lt, is_some, option_map}
 use Rattle.std.specs.Option.{option_or}
 use Rattle.std.proofs.Math.Seq.{drop-nil, drop-length}
 use Rattle.std.proofs.lemmas.Bool.{ne_eqb, ltb-true, ltb-false, false≢true}
@@ -12,10 +12,10 @@ use Rattle.script_read.specs.declared.fault.LineFault.TheVariants as fault
 use Rattle.script_read.specs.declared.fault.LineWhy.{LineWhy}
 use Rattle.script_read.specs.declared.fault.LineWhy.TheVariants as why
 use Rattle.script_read.specs.declared.script.Form.{Form}
-use Rattle.script_read.specs.Commands.{CommandRow, row_of, dues_of, by_row, form_at, checked, form_of}
-use Rattle.script_read.specs.Dues.{Due, text, a_name, a_file, a_key, due_of, fits, wrong_word, has_form, wrong_behind}
+use Rattle.script_read.specs.Commands.{CommandRow, row_of, dues_among, dues_of, by_row, form_among, form_at, checked, form_of}
+use Rattle.script_read.specs.Dues.{Due, text, a_name, a_file, a_key, a_number, text_or_number, due_of, fits, wrong_word, has_form, wrong_behind}
 use Rattle.script_read.specs.Faults.{◌>>=◌, Gives, GivesSurely, unless}
-use Rattle.script_read.specs.Words.{words_of, word_count, word_in, word_at, same, is_name, is_file_name, key_number}
+use Rattle.script_read.specs.Words.{words_of, word_count, word_in, word_at, same, is_name, is_file_name, number, key_number}
 
 -- ---- one word
 
@@ -30,12 +30,16 @@ fits_one (text t) dues word words = and_swap (fits dues words) (same word t)
 fits_one a_name dues word words = refl
 fits_one a_file dues word words = refl
 fits_one a_key dues word words = refl
+fits_one (a_number least most) dues word words = refl
+fits_one (text_or_number t least most) dues word words = refl
 
 fits_none : (due : Due) (dues : List Due) → fits (due ∷ dues) [] ≡ false
 fits_none (text t) dues = refl
 fits_none a_name dues = refl
 fits_none a_file dues = refl
 fits_none a_key dues = refl
+fits_none (a_number least most) dues = refl
+fits_none (text_or_number t least most) dues = refl
 
 or_behind : (b : Bool) (w : LineWhy) (o : Option LineWhy) → (if b then o else Some w) ≡ option_or (if b then None else Some w) o
 or_behind true w o = refl
@@ -46,6 +50,8 @@ wrong_one (text t) dues word words = refl
 wrong_one a_name dues word words = or_behind (is_name word) why.Name (wrong_word dues words)
 wrong_one a_file dues word words = or_behind (is_file_name word) why.Name (wrong_word dues words)
 wrong_one a_key dues word words = or_behind (is_some (key_number word)) why.Number (wrong_word dues words)
+wrong_one (a_number least most) dues word words = or_behind (is_some (number least most word)) why.Number (wrong_word dues words)
+wrong_one (text_or_number t least most) dues word words = or_behind (same word t || is_some (number least most word)) why.Number (wrong_word dues words)
 
 -- ---- word by word
 
@@ -179,7 +185,7 @@ unfolding word_at
 by_word line word found e h = ap dues_of (sym e) ∙ sym h
 
 row_then : (words : List (List ℕ)) (dues : List Due) → dues_of (word_in words 0) ≡ Some dues → form_of words ≡ (checked dues words >>= (λ _. form_at words))
-unfolding form_of form_at dues_of
+unfolding form_of form_among dues_among
 row_then words dues e = by_dues (row_of (word_in words 0)) words dues e
 
 then_bad : (r : Result (Unit {0}) LineWhy) (f : Result Form LineWhy) (w : LineWhy) → r ≡ Err w → (r >>= (λ _. f)) ≡ Err w
@@ -200,7 +206,7 @@ pub row_reads : (line word : List ℕ) (dues : List Due) (u : Unit {0}) → word
 row_reads line word dues u e h k = row_then (words_of line) dues (by_word line word (Some dues) e h) ∙ then_good (checked dues (words_of line)) _ u k
 
 none_then : (words : List (List ℕ)) → dues_of (word_in words 0) ≡ None → form_of words ≡ Err why.Word
-unfolding form_of dues_of
+unfolding form_of dues_among
 none_then words e = by_none (row_of (word_in words 0)) _ e
 
 -- no command begins with its first word

@@ -1,6 +1,7 @@
 -- A command that is read is one of the grammar.
-use Rattle.std.proofs.Common.{◌≡◌, ◌∙◌, sym, refl, ap, subst, ℕ, List, [], ◌∷◌, Bool, true, false, if◌then◌else◌, Option, Some, None, Ok, Err, rules}
-use Rattle.std.specs.Prelude.{◌&&◌, IsTrue, is_some, find, ⊤}
+use Rattle.std.proofs.Common.{◌≡◌, ◌∙◌, sym, refl, ap, subst, ℕ, List, [], ◌∷◌, Bool, true, false, if◌then◌else◌, Option, Some, None, Ok, rules}
+use Rattle.std.specs.Prelude.{◌&&◌, ◌||◌, ◌++◌, IsTrue, is_some, unwrap_or, codes, find, ⊤}
+use Rattle.std.specs.Fmt.{decimal}
 use Rattle.std.specs.List.{AllByRecursion, join_with_byte}
 use Rattle.std.proofs.lemmas.Bool.{false≢true}
 use Rattle.std.proofs.lemmas.List.Splits.{join_with_byte-slice_split}
@@ -8,12 +9,14 @@ use Rattle.script_read.specs.declared.fault.LineWhy.{LineWhy}
 use Rattle.script_read.specs.declared.fault.LineWhy.TheVariants as why
 use Rattle.script_read.specs.declared.script.Command.{Command}
 use Rattle.script_read.specs.declared.script.Form.{Form}
-use Rattle.script_read.specs.Commands.{CommandRow, commands, row_of, by_row, checked, form_of, command_of}
-use Rattle.script_read.specs.Dues.{Due, text, a_name, a_file, a_key, fits, wrong_word}
+use Rattle.script_read.specs.declared.script.Form.TheVariants as form
+use Rattle.script_read.specs.Commands.{CommandRow, most_keep, most_long, lone_commands, name_commands, pair_commands, number_commands, commands, row_of, by_row, checked, form_of, command_of}
+use Rattle.script_read.specs.Dues.{Due, text, a_name, a_file, a_key, a_number, text_or_number, fits, wrong_word}
 use Rattle.script_read.specs.Faults.{◌>>=◌, unless}
-use Rattle.script_read.specs.Meaning.{IsName, IsFileName, IsCommand}
-use Rattle.script_read.specs.Words.{same, words_of, word_in, is_name, is_file_name, key_number}
+use Rattle.script_read.specs.Meaning.{IsName, IsFileName, spelled, IsCommand}
+use Rattle.script_read.specs.Words.{same, words_of, word_in, is_name, is_file_name, number, key_number}
 use Rattle.script_read.proofs.Inversions.{err_ok, carried, first, same_is}
+use Rattle.script_read.proofs.Numbers.{number_is}
 
 -- ---- words that are what is due
 
@@ -24,6 +27,8 @@ Filled (text t ∷ dues) = Filled dues
 Filled (a_name ∷ dues) = ((word : List ℕ) × IsName word) × Filled dues
 Filled (a_file ∷ dues) = ((word : List ℕ) × IsFileName word) × Filled dues
 Filled (a_key ∷ dues) = ((word : List ℕ) × IsTrue (is_some (key_number word))) × Filled dues
+Filled (a_number least most ∷ dues) = ((word : List ℕ) × IsTrue (is_some (number least most word))) × Filled dues
+Filled (text_or_number t least most ∷ dues) = ((word : List ℕ) × IsTrue (same word t || is_some (number least most word))) × Filled dues
 
 -- all words, with the texts that are due
 abbrev fill : (dues : List Due) → Filled dues → List (List ℕ)
@@ -32,6 +37,8 @@ fill (text t ∷ dues) x = t ∷ fill dues x
 fill (a_name ∷ dues) x = x.0.0 ∷ fill dues x.1
 fill (a_file ∷ dues) x = x.0.0 ∷ fill dues x.1
 fill (a_key ∷ dues) x = x.0.0 ∷ fill dues x.1
+fill (a_number least most ∷ dues) x = x.0.0 ∷ fill dues x.1
+fill (text_or_number t least most ∷ dues) x = x.0.0 ∷ fill dues x.1
 
 record Meets (dues : List Due) (words : List (List ℕ)) : Type 0 where
   parts : Filled dues
@@ -71,6 +78,16 @@ meets (a_key ∷ dues) (x ∷ words) f w =
     let a = no_why (is_some (key_number x)) (wrong_word dues words) why.Number w in
     let m = meets dues words f a.1 in
     record { parts = ((x, a.0), m.parts); are = ap (λ (l : List (List ℕ)). x ∷ l) m.are }
+meets (a_number least most ∷ dues) [] f w = absurd (false≢true f)
+meets (a_number least most ∷ dues) (x ∷ words) f w =
+    let a = no_why (is_some (number least most x)) (wrong_word dues words) why.Number w in
+    let m = meets dues words f a.1 in
+    record { parts = ((x, a.0), m.parts); are = ap (λ (l : List (List ℕ)). x ∷ l) m.are }
+meets (text_or_number t least most ∷ dues) [] f w = absurd (false≢true f)
+meets (text_or_number t least most ∷ dues) (x ∷ words) f w =
+    let a = no_why (same x t || is_some (number least most x)) (wrong_word dues words) why.Number w in
+    let m = meets dues words f a.1 in
+    record { parts = ((x, a.0), m.parts); are = ap (λ (l : List (List ℕ)). x ∷ l) m.are }
 
 -- the words of a line that has what is due behind its first word
 record Behind (dues : List Due) (words : List (List ℕ)) : Type 0 where
@@ -99,9 +116,52 @@ Spells words f = IsCommand (record { line = join_with_byte 32 words; form = f })
 abbrev RowSpells : CommandRow → Type 0
 RowSpells r = (x : Filled r.dues) → Spells (r.word ∷ fill r.dues x) (r.form (r.word ∷ fill r.dues x))
 
--- each command's form spells the line of its row: behind the table of commands, this is all that is proved of one alone
+-- each command's form spells the line of its row: behind the table of commands, this is all that is proved of one alone, part by
+-- part of the table
+lone_rows : AllByRecursion RowSpells lone_commands
+unfolding lone_commands
+lone_rows = search rules
+
+name_rows : AllByRecursion RowSpells name_commands
+unfolding name_commands
+name_rows = search rules
+
+pair_rows : AllByRecursion RowSpells pair_commands
+unfolding pair_commands
+pair_rows = search rules
+
+-- the words of a `publish` line, whose numbers are printed as they were written
+published_line : (graph line keep threshold : List ℕ) (k t : ℕ) → decimal k ≡ keep → decimal t ≡ threshold
+    → join_with_byte 32 (codes "publish" ∷ graph ∷ codes "as" ∷ line ∷ codes "keep" ∷ keep ∷ codes "threshold" ∷ threshold ∷ []) ≡ spelled (form.Publish graph line k t)
+published_line graph line keep threshold k t e f = rw (← e, ← f) refl
+
+-- a `checkout` line, by whether its last word is `latest`
+checkout_spells : (latest : Bool) (graph word : List ℕ) → same word (codes "latest") ≡ latest → IsTrue (latest || is_some (number 1 most_long word)) → IsName graph
+    → Spells (codes "checkout" ∷ graph ∷ codes "at" ∷ word ∷ []) (if latest then form.CheckoutLatest graph else form.CheckoutSid graph (unwrap_or (number 1 most_long word) 0))
+checkout_spells true graph word e h n = let w = same_is word (codes "latest") e in record { spells = rw w refl; parts = n }
+checkout_spells false graph word e h n =
+    let a = number_is 1 most_long word h in
+    record { spells = ap (λ (w : List ℕ). codes "checkout " ++ (graph ++ (codes " at " ++ w))) (sym a.0); parts = (n, a.1) }
+
+number_rows : AllByRecursion RowSpells number_commands
+unfolding number_commands
+number_rows = (
+  λ x.
+      let k = number_is 1 most_keep x.1.1.0.0 x.1.1.0.1 in
+      let t = number_is 1 most_long x.1.1.1.0.0 x.1.1.1.0.1 in
+      record { spells = published_line x.0.0 x.1.0.0 x.1.1.0.0 x.1.1.1.0.0 _ _ k.0 t.0; parts = (x.0.1, x.1.0.1, k.1, t.1) },
+  (λ x. checkout_spells (same x.1.0.0 (codes "latest")) x.0.0 x.1.0.0 refl x.1.0.1 x.0.1, tt),
+)
+
+-- what holds of the rows of two parts holds of all rows
+all_and : (rows more : List CommandRow) → AllByRecursion RowSpells rows → AllByRecursion RowSpells more → AllByRecursion RowSpells (rows ++ more)
+all_and [] more a b = b
+all_and (x ∷ rows) more a b = (a.0, all_and rows more a.1 b)
+
 rows_spell : AllByRecursion RowSpells commands
-rows_spell = search rules
+rows_spell =
+    all_and lone_commands (name_commands ++ (pair_commands ++ number_commands)) lone_rows
+    (all_and name_commands (pair_commands ++ number_commands) name_rows (all_and pair_commands number_commands pair_rows number_rows))
 
 -- ---- a line
 

@@ -1,20 +1,22 @@
 -- A key is the text that is printed of its number.
-use Rattle.std.proofs.Common.{◌≡◌, ◌∙◌, sym, refl, ap, ℕ, suc, zero, neg_ℤ, ◌<◌, ◌≤◌, ◌^◌, List, [], ◌∷◌, length, get_or, Bool, true, false, if◌then◌else◌, Option, Some, None, Ok, ℤ, pos, negsuc, arith, rules}
-use Rattle.std.specs.Prelude.{◌==◌, ◌&&◌, ◌||◌, not, codes}
+use Rattle.std.proofs.Common.{◌≡◌, ◌∙◌, sym, refl, ap, ℕ, suc, zero, neg_ℤ, ◌<◌, ◌≤◌, ◌^◌, List, [], ◌∷◌, length, get_or, Bool, true, false, if◌then◌else◌, Option, Some, None, Result, Ok, Err, ℤ, pos, negsuc, arith, rules}
+use Rattle.std.specs.Prelude.{◌==◌, ◌&&◌, ◌||◌, not, nat_le, nat_lt, codes, is_some, unwrap_or, IsTrue, OkIff}
 use Rattle.std.specs.List.{list_all}
-use Rattle.std.specs.Str.Parse.{digits_value, signed_digits_value}
+use Rattle.std.specs.Result.{result_ok}
+use Rattle.std.specs.Str.Parse.{ParsesUnsigned, digits_value, signed_digits_value}
 use Rattle.std.specs.Fmt.{decimal, signed_decimal}
 use Rattle.std.proofs.lemmas.Fmt.{decimal-digits_value, decimal_digit, digits_decimal, decimal_nonempty, first_decimal}
 use Rattle.column_types.proofs.Whole.{whole_of-signed_decimal}
 use mir.Syntax.{w64}
 use mir.Val.{SFits}
 use lib.Signed.{mag}
-use Rattle.std.proofs.lemmas.Bool.{eqb-true, eq-eqb, leb-true, ltb-true, false≢true}
+use Rattle.std.proofs.lemmas.Bool.{eqb-true, eq-eqb, leb-true, ltb-true, lt-ltb, false≢true}
 use Rattle.std.proofs.lemmas.Bool.Decides.{nat_tests}
-use Rattle.std.proofs.lemmas.Str.Parse.{IsNumeralModel, numerals_by_value}
+use Rattle.std.proofs.lemmas.Str.Parse.{IsNumeralModel, numerals_by_value, parse_digits}
 use Rattle.column_types.specs.Reading.{fits_bits, whole_of}
 use Rattle.script_read.specs.declared.fault.LineWhy.TheVariants as why
-use Rattle.script_read.specs.Words.{same, is_digit, is_decimal, is_key, key_number, or_number, key}
+use Rattle.script_read.specs.Meaning.{IsFrom}
+use Rattle.script_read.specs.Words.{same, is_digit, is_decimal, decimal_number, within, number, is_key, key_number, or_number, key}
 use Rattle.script_read.proofs.Inversions.{err_ok, carried}
 
 own : IsNumeralModel (λ ds. list_all is_digit ds ≡ true) (digits_value 10)
@@ -138,3 +140,50 @@ printed_is_key (negsuc n) h =
 pub key_again : (z : ℤ) → SFits w64 z → mag z < 2 ^ 63 → key (signed_decimal z) ≡ Ok z
 unfolding key key_number
 key_again z fits small = rw (printed_is_key z small, whole_of-signed_decimal w64 z fits small) refl
+
+-- ---- numbers without sign
+
+not_less : (v : ℕ) (b : Bool) → nat_lt v (2 ^ 64) ≡ b → (v < 2 ^ 64 → ⊥) → b ≡ false
+not_less v true e h = absurd (h (ltb-true v (2 ^ 64) e))
+not_less v false e h = refl
+
+digits_read : {E : Type 0} (bs : List ℕ) (r : Result ℕ E) → 0 < length bs → OkIff r ((0 < length bs) × (digits_value 10 bs < 2 ^ 64)) (digits_value 10 bs)
+    → result_ok r ≡ (if nat_lt (digits_value 10 bs) (2 ^ 64) then Some (digits_value 10 bs) else None)
+digits_read bs (Ok v) filled h = rw (lt-ltb (digits_value 10 bs) (2 ^ 64) h.0.1) (ap (λ (n : ℕ). Some n) h.1)
+digits_read bs (Err e) filled h = rw (not_less (digits_value 10 bs) _ refl (λ l. h (filled, l))) refl
+
+decimal_read : {E : Type 0} (bs : List ℕ) (r : Result ℕ E) → ParsesUnsigned 64 10 bs r → is_decimal bs ≡ true
+    → result_ok r ≡ (if nat_lt (digits_value 10 bs) (2 ^ 64) then Some (digits_value 10 bs) else None)
+decimal_read [] r h p = cc
+decimal_read (c ∷ cs) r h p = digits_read (c ∷ cs) r (omega arith) (parse_digits own 64 (c ∷ cs) r h (and_parts _ _ p).0)
+
+-- what `parse` reads of decimal digits is their number
+pub parsed_number : {E : Type 0} (bs : List ℕ) (r : Result ℕ E) → ParsesUnsigned 64 10 bs r → is_decimal bs ≡ true → result_ok r ≡ decimal_number bs
+unfolding decimal_number
+parsed_number bs r h p = rw p (decimal_read bs r h p)
+
+-- a word that writes a number from one to another is what is printed of it
+record IsNumber (least most : ℕ) (word : List ℕ) (n : ℕ) : Type 0 where
+  written : decimal n ≡ word
+  from : IsFrom least most n
+
+within_is : (b : Bool) (least most : ℕ) (word : List ℕ) (n : ℕ) → (nat_le least n && nat_le n most) ≡ b → decimal n ≡ word → IsTrue (is_some (if b then Some n else None))
+    → IsNumber least most word (unwrap_or (if b then Some n else None) 0)
+within_is true least most word n e w h =
+    let a = and_parts _ _ e in
+    record { written = w; from = record { low = leb-true least n a.0; high = leb-true n most a.1 } }
+within_is false least most word n e w h = cc
+
+number_by : (b : Bool) (least most : ℕ) (word : List ℕ) → (is_decimal word && nat_lt (digits_value 10 word) (2 ^ 64)) ≡ b
+    → IsTrue (is_some (within least most (if b then Some (digits_value 10 word) else None)))
+    → IsNumber least most word (unwrap_or (within least most (if b then Some (digits_value 10 word) else None)) 0)
+number_by true least most word e h =
+    let a = and_parts _ _ e in
+    within_is _ least most word (digits_value 10 word) refl (decimal_is word (digits_value 10 word) refl a.0 (ltb-true (digits_value 10 word) (2 ^ 64) a.1)) h
+number_by false least most word e h = cc
+
+-- a word that is read as a number is printed of that number, which lies in its limits
+pub number_is : (least most : ℕ) (word : List ℕ) → IsTrue (is_some (number least most word))
+    → (decimal (unwrap_or (number least most word) 0) ≡ word) × IsFrom least most (unwrap_or (number least most word) 0)
+unfolding number decimal_number
+number_is least most word h = let a = number_by _ least most word refl h in (a.written, a.from)

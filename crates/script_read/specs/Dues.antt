@@ -1,22 +1,27 @@
 -- What is due at the words of a line, and the first why of words by it.
-use Rattle.std.specs.Prelude.{ℕ, ◌&&◌, Bool, true, false, if◌then◌else◌, is_some, List, [], ◌∷◌, Option, Some, None}
+use Rattle.std.specs.Prelude.{ℕ, ◌&&◌, ◌||◌, Bool, true, false, if◌then◌else◌, is_some, List, [], ◌∷◌, Option, Some, None}
 use Rattle.script_read.specs.declared.args.Arg.{Arg}
 use Rattle.script_read.specs.declared.args.Arg.TheVariants as arg
 use Rattle.script_read.specs.declared.fault.LineWhy.{LineWhy}
 use Rattle.script_read.specs.declared.fault.LineWhy.TheVariants as why
-use Rattle.script_read.specs.Words.{same, is_name, is_file_name, key_number}
+use Rattle.script_read.specs.Words.{same, is_name, is_file_name, number, key_number}
 
--- what is due at a word: this text, a name, a file name or a key
+-- what is due at a word: this text, a name, a file name, a key, a number from the first of these to the second, or this text or
+-- such a number
 pub data Due : Type 0 where
   text : List ℕ → Due
   a_name : Due
   a_file : Due
   a_key : Due
+  a_number : ℕ → ℕ → Due
+  text_or_number : List ℕ → ℕ → ℕ → Due
 
 -- what is due where the code's table has this
 abbrev pub due_of : Arg → Due
 due_of arg.Name = a_name
 due_of (arg.Word word) = text word.now
+due_of (arg.Number least most) = a_number least most
+due_of (arg.WordOrNumber word least most) = text_or_number word.now least most
 
 -- whether so many words stand, with the texts that are due
 abbrev pub fits : List Due → List (List ℕ) → Bool
@@ -26,10 +31,14 @@ fits (text t ∷ dues) (word ∷ words) = fits dues words && same word t
 fits (a_name ∷ dues) (word ∷ words) = fits dues words
 fits (a_file ∷ dues) (word ∷ words) = fits dues words
 fits (a_key ∷ dues) (word ∷ words) = fits dues words
+fits (a_number least most ∷ dues) (word ∷ words) = fits dues words
+fits (text_or_number t least most ∷ dues) (word ∷ words) = fits dues words
 fits (text t ∷ dues) [] = false
 fits (a_name ∷ dues) [] = false
 fits (a_file ∷ dues) [] = false
 fits (a_key ∷ dues) [] = false
+fits (a_number least most ∷ dues) [] = false
+fits (text_or_number t least most ∷ dues) [] = false
 
 -- the why of the leftmost word that is not the name, file name or number that is due
 abbrev pub wrong_word : List Due → List (List ℕ) → Option LineWhy
@@ -38,10 +47,15 @@ wrong_word (text t ∷ dues) (word ∷ words) = wrong_word dues words
 wrong_word (a_name ∷ dues) (word ∷ words) = if is_name word then wrong_word dues words else Some why.Name
 wrong_word (a_file ∷ dues) (word ∷ words) = if is_file_name word then wrong_word dues words else Some why.Name
 wrong_word (a_key ∷ dues) (word ∷ words) = if is_some (key_number word) then wrong_word dues words else Some why.Number
+wrong_word (a_number least most ∷ dues) (word ∷ words) = if is_some (number least most word) then wrong_word dues words else Some why.Number
+wrong_word (text_or_number t least most ∷ dues) (word ∷ words) =
+    if same word t || is_some (number least most word) then wrong_word dues words else Some why.Number
 wrong_word (text t ∷ dues) [] = None
 wrong_word (a_name ∷ dues) [] = None
 wrong_word (a_file ∷ dues) [] = None
 wrong_word (a_key ∷ dues) [] = None
+wrong_word (a_number least most ∷ dues) [] = None
+wrong_word (text_or_number t least most ∷ dues) [] = None
 
 -- the why of the words behind the first, where they may have these forms: `form` where they have none of them, else that of
 -- the form that they have

@@ -1,5 +1,5 @@
 -- The grammar as a table of lines, and the first why that a line has by it.
-use Rattle.std.specs.Prelude.{ℕ, ◌&&◌, Bool, true, false, not, nat_le, if◌then◌else◌, is_some, find, map, sum_by, List, [], ◌∷◌, length, codes, Option, Some, None}
+use Rattle.std.specs.Prelude.{ℕ, Bool, not, nat_le, if◌then◌else◌, find, map, sum_by, List, [], ◌∷◌, length, codes, Option, Some, None}
 use Rattle.std.specs.List.{list_any}
 use Rattle.std.specs.Option.{option_or}
 use Rattle.std.specs.Str.{is_utf8}
@@ -15,7 +15,7 @@ use Rattle.script_read.specs.Lines.{is_passed}
 use Rattle.script_read.specs.Phases.{phase_commands}
 use Rattle.script_read.specs.Script.{phases_so_far}
 use Rattle.script_read.specs.Sections.{has_source, blocks_at, actor_name}
-use Rattle.script_read.specs.Words.{same, words_of, word_at, is_name, is_file_name, key_number}
+use Rattle.script_read.specs.Words.{same, words_of, word_at}
 
 -- a line: its first word, and the forms that the words behind it may have, each what is due at these words
 abbrev pub Row : Type 0

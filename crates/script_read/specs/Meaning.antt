@@ -1,7 +1,7 @@
 -- What a script that is read has, and what its first fault is.
 use Rattle.std.specs.Prelude.{◌≡◌, ◌≢◌, ◌≤◌, ◌+◌, ◌-◌, ◌++◌, ◌⊎◌, ℕ, ℤ, IsTrue, map, if◌then◌else◌, All, AllPairs, List, [], ◌∷◌, length, take, drop, codes, Option, Some, None, Result, Ok, ⊤}
 use Rattle.std.specs.List.{flat_map, AllByRecursion}
-use Rattle.std.specs.Fmt.{signed_decimal}
+use Rattle.std.specs.Fmt.{decimal, signed_decimal}
 use Rattle.script_read.specs.declared.fault.LineWhy.{LineWhy}
 use Rattle.script_read.specs.declared.fault.LineWhy.TheVariants.{End}
 use Rattle.script_read.specs.declared.fault.ScriptFault.{ScriptFault}
@@ -17,6 +17,7 @@ use Rattle.script_read.specs.declared.script.Script.{Script}
 use Rattle.script_read.specs.declared.script.SourceForm.{SourceForm}
 use Rattle.script_read.specs.declared.script.SourceForm.TheVariants.{Inline, Files}
 use Rattle.script_read.specs.declared.script.SourceText.{SourceText}
+use Rattle.script_read.specs.Commands.{most_keep, most_long}
 use Rattle.script_read.specs.Faults.{◌>>=◌}
 use Rattle.script_read.specs.Lines.{cleaned, is_passed, line_step}
 use Rattle.script_read.specs.Grammar.{first_why}
@@ -30,8 +31,15 @@ abbrev pub spelled : Form → List ℕ
 spelled form.Open = codes "open"
 spelled form.Close = codes "close"
 spelled form.Columns = codes "columns"
+spelled form.Lines = codes "lines"
 spelled (form.Load graph source) = codes "load " ++ (graph ++ (codes " from " ++ source))
 spelled (form.Clone graph base) = codes "clone " ++ (graph ++ (codes " from " ++ base))
+spelled (form.Publish graph line keep threshold) =
+    codes "publish " ++ (graph ++ (codes " as " ++ (line ++ (codes " keep " ++ (decimal keep ++ (codes " threshold " ++ decimal threshold))))))
+spelled (form.Unpublish line) = codes "unpublish " ++ line
+spelled (form.Get graph line) = codes "get " ++ (graph ++ (codes " from " ++ line))
+spelled (form.CheckoutSid graph sid) = codes "checkout " ++ (graph ++ (codes " at " ++ decimal sid))
+spelled (form.CheckoutLatest graph) = codes "checkout " ++ (graph ++ codes " at latest")
 spelled (form.Release graph) = codes "release " ++ graph
 spelled (form.Show source) = codes "show " ++ source
 spelled (form.Rows graph) = codes "rows " ++ graph
@@ -42,21 +50,32 @@ IsName word = IsTrue (is_name word)
 abbrev pub IsFileName : List ℕ → Type 0
 IsFileName word = IsTrue (is_file_name word)
 
--- the words of a form that are due as names are names
-abbrev pub HasNames : Form → Type 0
-HasNames form.Open = ⊤
-HasNames form.Close = ⊤
-HasNames form.Columns = ⊤
-HasNames (form.Load graph source) = IsName graph × IsName source
-HasNames (form.Clone graph base) = IsName graph × IsName base
-HasNames (form.Release graph) = IsName graph
-HasNames (form.Show source) = IsName source
-HasNames (form.Rows graph) = IsName graph
+-- a number from the first of these to the second
+pub record IsFrom (least most n : ℕ) : Type 0 where
+  pub low : least ≤ n
+  pub high : n ≤ most
+
+-- the names of a form are names, and its numbers lie in their limits
+abbrev pub HasParts : Form → Type 0
+HasParts form.Open = ⊤
+HasParts form.Close = ⊤
+HasParts form.Columns = ⊤
+HasParts form.Lines = ⊤
+HasParts (form.Load graph source) = IsName graph × IsName source
+HasParts (form.Clone graph base) = IsName graph × IsName base
+HasParts (form.Publish graph line keep threshold) = IsName graph × IsName line × IsFrom 1 most_keep keep × IsFrom 1 most_long threshold
+HasParts (form.Unpublish line) = IsName line
+HasParts (form.Get graph line) = IsName graph × IsName line
+HasParts (form.CheckoutSid graph sid) = IsName graph × IsFrom 1 most_long sid
+HasParts (form.CheckoutLatest graph) = IsName graph
+HasParts (form.Release graph) = IsName graph
+HasParts (form.Show source) = IsName source
+HasParts (form.Rows graph) = IsName graph
 
 -- a command's line spells its form
 pub record IsCommand (command : Command) : Type 0 where
   pub spells : command.line ≡ spelled command.form
-  pub names : HasNames command.form
+  pub parts : HasParts command.form
 
 -- the commands of a block are commands
 abbrev pub IsBlock : Block → Type 0

@@ -1,11 +1,11 @@
 -- The words of a line, and what a word is read as.
-use Rattle.std.specs.Prelude.{ℕ, ◌==◌, ◌&&◌, ◌||◌, ℤ, Bool, false, not, nat_eq, nat_le, if◌then◌else◌, List, [], ◌∷◌, length, slice_get, unwrap_or, codes, Option, Some, None, Result, Ok, Err}
+use Rattle.std.specs.Prelude.{ℕ, ◌==◌, ◌&&◌, ◌||◌, ◌^◌, ℤ, Bool, false, not, nat_eq, nat_le, nat_lt, if◌then◌else◌, List, [], ◌∷◌, length, slice_get, unwrap_or, codes, Option, Some, None, Result, Ok, Err}
 use Rattle.std.specs.List.{list_all, list_any, slice_split}
 use Rattle.std.specs.Cmp.Lexicographic.{pointwise}
+use Rattle.std.specs.Str.Parse.{digits_value}
 use Rattle.column_types.specs.Reading.{whole_of}
 use Rattle.script_read.specs.declared.fault.LineWhy.{LineWhy}
 use Rattle.script_read.specs.declared.fault.LineWhy.TheVariants as why
-use Rattle.script_read.specs.Faults.{◌>>=◌}
 
 -- whether two texts have the same bytes
 abbrev pub same : List ℕ → List ℕ → Bool
@@ -70,6 +70,23 @@ file_name word = if is_file_name word then Ok word else Err why.Name
 abbrev pub is_decimal : List ℕ → Bool
 is_decimal [] = false
 is_decimal (c ∷ cs) = list_all is_digit (c ∷ cs) && ((length (c ∷ cs) == 1) || not (c == 48))
+
+-- the number of 64 bits that a word writes in decimal digits
+unfoldable pub decimal_number : List ℕ → Option ℕ
+decimal_number word = if is_decimal word && nat_lt (digits_value 10 word) (2 ^ 64) then Some (digits_value 10 word) else None
+
+-- a number, where it lies from the first of these to the second
+abbrev pub within : ℕ → ℕ → Option ℕ → Option ℕ
+within least most None = None
+within least most (Some n) = if nat_le least n && nat_le n most then Some n else None
+
+-- the number from the first of these to the second that a word writes
+unfoldable pub number : ℕ → ℕ → List ℕ → Option ℕ
+number least most word = within least most (decimal_number word)
+
+-- the same of the word at a place, and 0 where it writes none
+abbrev pub number_in : ℕ → ℕ → List (List ℕ) → ℕ → ℕ
+number_in least most words place = unwrap_or (number least most (word_in words place)) 0
 
 -- an optional `-` and decimal digits without a leading zero, but not `-0`
 abbrev pub is_key : List ℕ → Bool

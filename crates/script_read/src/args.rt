@@ -1,12 +1,12 @@
 //! What is due at the words behind the first of a line, and whether a line has it.
-ghost use Rattle.std.specs.Prelude.{◌≡◌, ◌∷◌, [], map, true};
+ghost use Rattle.std.specs.Prelude.{◌≡◌, ◌∷◌, [], map, true, if◌then◌else◌, is_some, Some, None};
 ghost use Rattle.script_read.specs.Commands.{checked};
 ghost use Rattle.script_read.specs.Dues.{due_of, fits, wrong_word, has_form, wrong_behind};
 ghost use Rattle.script_read.specs.Faults.{GivesSurely};
-ghost use Rattle.script_read.specs.Words.{words_of};
+ghost use Rattle.script_read.specs.Words.{words_of, number};
 
 use crate::fault::{LineFault, LineWhy};
-use crate::words::{count_words, is_name, nth_word};
+use crate::words::{count_words, is_name, nth_word, read_number};
 
 /// What is due at a word behind the first of a line.
 #[derive(Clone, Copy)]
@@ -15,6 +15,10 @@ pub enum Arg {
     Name,
     /// This word.
     Word(&'static str),
+    /// A number from the first of these to the second.
+    Number(u64, u64),
+    /// This word, or a number from the first of these to the second.
+    WordOrNumber(&'static str, u64, u64),
 }
 
 /// Whether a word may stand where this is due: it is the fixed word, where one is due.
@@ -22,9 +26,22 @@ fn may_stand(arg: Arg, word: &str) -> bool
     ensures { result ≡ fits (due_of arg ∷ []) (word.now ∷ []) }
 {
     match arg {
-        Arg::Name => true,
+        Arg::Name | Arg::Number(_, _) | Arg::WordOrNumber(_, _, _) => true,
         Arg::Word(fixed) => word == fixed,
     }
+}
+
+fn is_number(word: &str, least: u64, most: u64) -> bool
+    ensures { result ≡ is_some (number least most word.now) }
+{
+    read_number(word, least, most).is_some()
+}
+
+/// The why, where a test failed.
+fn unless(passed: bool, why: LineWhy) -> Option<LineWhy>
+    ensures { result ≡ (if passed then None else Some why) }
+{
+    if passed { None } else { Some(why) }
 }
 
 /// Why a word is wrong that may stand where this is due, if it is.
@@ -32,8 +49,13 @@ fn word_why(arg: Arg, word: &str) -> Option<LineWhy>
     ensures { result ≡ wrong_word (due_of arg ∷ []) (word.now ∷ []) }
 {
     match arg {
-        Arg::Name if !is_name(word.as_bytes()) => Some(LineWhy::Name),
-        Arg::Name | Arg::Word(_) => None,
+        Arg::Word(_) => None,
+        Arg::Name => unless(is_name(word.as_bytes()), LineWhy::Name),
+        Arg::Number(least, most) => unless(is_number(word, least, most), LineWhy::Number),
+        Arg::WordOrNumber(fixed, least, most) => unless(
+            word == fixed || is_number(word, least, most),
+            LineWhy::Number,
+        ),
     }
 }
 

@@ -9,11 +9,12 @@
 //! | start, after a source | `source S inline`, `source S config FILE`, `phase` |
 //! | in an inline source | `v KEY`, after all of these `e KEY SOURCE DESTINATION`, `end` |
 //! | after `phase` | `phase`, `actor A` |
-//! | after `actor` or a command | `phase`, `actor A`, `open`, `close`, `columns`, `load G from S`, `clone G from H`, `release G`, `show S`, `rows G` |
+//! | after `actor` or a command | `phase`, `actor A`, `open`, `close`, `columns`, `lines`, `load G from S`, `clone G from H`, `publish G as L keep K threshold T`, `unpublish L`, `get G from L`, `checkout G at SID`, `checkout G at latest`, `release G`, `show S`, `rows G` |
 //!
-//! S, A, G and H are names: 1 to 64 bytes, an ASCII letter or `_` and then letters, digits and `_`. KEY, SOURCE and
-//! DESTINATION are LONGs in decimal with an optional `-`, without a leading zero and other than `-0`. FILE is a file name: 1
-//! to 255 bytes of ASCII letters, digits, `_`, `.`, `-` and `/`.
+//! S, A, G, H and L are names: 1 to 64 bytes, an ASCII letter or `_` and then letters, digits and `_`. KEY, SOURCE and
+//! DESTINATION are LONGs in decimal with an optional `-`, without a leading zero and other than `-0`. K, T and SID are decimal
+//! numbers without sign and without a leading zero: K from 1 to 64, T and SID from 1 to 9,223,372,036,854,775,807. FILE is a
+//! file name: 1 to 255 bytes of ASCII letters, digits, `_`, `.`, `-` and `/`.
 //!
 //! The first line with a fault decides, and of its faults the first in the order of [`LineWhy`]. A script has at most 64
 //! sources, whose names differ, 128 actors over all its phases and 65,536 commands over all its blocks. An actor stands once in
@@ -27,9 +28,10 @@
 //! `specs/Grammar.antt` has the grammar as a table, `specs/Meaning.antt` what an accepted script spells and what a fault
 //! names, and `specs/Phases.antt` what whoever runs a script may rely on.
 //!
-//! A command is a variant of [`Form`], a definition in `specs/Commands.antt` and a function in `command.rt`, each with its
-//! arm; a line in `spelled` and `HasNames` of `specs/Meaning.antt` and in the table of `specs/Grammar.antt`; and two lemmas,
-//! in `proofs/Forms.antt` and `proofs/Whys.antt`.
+//! A command is a variant of [`Form`]; a row of the table `commands` in `specs/Commands.antt`, which is cut into four by what
+//! stands behind the first word; a word or an arm in the two functions of `command.rt` for its part of the table; and a line
+//! each in `spelled` and `HasParts` of `specs/Meaning.antt`. Its word leaves the two lists of commands that come later. A
+//! command without numbers has no lemma of its own.
 #![tactic(auto)]
 
 mod args;

@@ -51,7 +51,7 @@ pub struct Command {
     pub form: Form,
 }
 
-/// What a command asks, with its variable words in order.
+/// What a command asks, with its variable words in order. A line is a graph that is published under a name.
 #[derive(Clone, Debug, Drop, PartialEq, Eq)]
 pub enum Form {
     /// Open the session.
@@ -60,10 +60,23 @@ pub enum Form {
     Close,
     /// List the columns that can be reached.
     Columns,
+    /// List the lines of published graphs.
+    Lines,
     /// Load a graph under the first name from the source of the second.
     Load(Text, Text),
     /// Clone under the first name the session graph of the second.
     Clone(Text, Text),
+    /// Publish the session graph of the first name as the line of the second, which keeps so many snapshots, 1 to 64, and has
+    /// this threshold, from 1 to the greatest LONG.
+    Publish(Text, Text, u32, u64),
+    /// Unpublish the line of this name.
+    Unpublish(Text),
+    /// Get under the first name the latest snapshot of the line of the second.
+    Get(Text, Text),
+    /// Check the session graph of this name out at the snapshot of this id, from 1 to the greatest LONG.
+    CheckoutSid(Text, u64),
+    /// Check the session graph of this name out at its line's latest snapshot.
+    CheckoutLatest(Text),
     /// Release the session graph of this name.
     Release(Text),
     /// Show the source of this name.

@@ -1,8 +1,8 @@
 //! The words of a line, and what a word is read as.
-ghost use Rattle.std.specs.Prelude.{◌≡◌};
+ghost use Rattle.std.specs.Prelude.{◌≡◌, ◌≤◌, IfSome};
 ghost use Rattle.std.specs.List.{list_all};
 ghost use Rattle.script_read.specs.Faults.{Gives, GivesSurely};
-ghost use Rattle.script_read.specs.Words.{word_count, word_at, has_word, is_letter, is_digit, is_name_byte, is_name, name, is_file_byte, is_file_name, file_name, is_decimal, is_key, key_number, key, alone, one_name};
+ghost use Rattle.script_read.specs.Words.{word_count, word_at, has_word, is_letter, is_digit, is_name_byte, is_name, name, is_file_byte, is_file_name, file_name, is_decimal, decimal_number, number, is_key, key_number, key, alone, one_name};
 
 use crate::fault::{LineFault, LineWhy};
 use column_types::Text;
@@ -118,6 +118,31 @@ fn is_decimal(bytes: &[u8]) -> bool
     match bytes {
         [] => false,
         [first, ..] => are_digits(bytes) && (bytes.len() == 1 || *first != b'0'),
+    }
+}
+
+/// The number that a word writes in decimal digits.
+#[tactic(auto, using(crate::proofs::Numbers::parsed_number), unfolding(crate::specs::Words::decimal_number))]
+fn decimal_number(word: &str) -> Option<u64>
+    ensures { result ≡ decimal_number word.now }
+{
+    if !is_decimal(word.as_bytes()) {
+        return None;
+    }
+    word.parse::<u64>().ok()
+}
+
+/// The number from `least` to `most` that a word writes.
+#[tactic(auto, unfolding(crate::specs::Words::number))]
+pub fn read_number(word: &str, least: u64, most: u64) -> Option<u64>
+    ensures number { result ≡ number least most word.now }
+    ensures within { IfSome result (λ n. n ≤ most) }
+{
+    let number = decimal_number(word)?;
+    if least <= number && number <= most {
+        Some(number)
+    } else {
+        None
     }
 }
 

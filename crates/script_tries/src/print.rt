@@ -107,8 +107,20 @@ fn push_form(all: &mut String, form: &Form) -> Result<(), AllocError> {
         Form::Open => all.push_str(": Open"),
         Form::Close => all.push_str(": Close"),
         Form::Columns => all.push_str(": Columns"),
+        Form::Lines => all.push_str(": Lines"),
         Form::Load(graph, source) => push_names(all, ": Load ", graph, source),
         Form::Clone(graph, base) => push_names(all, ": Clone ", graph, base),
+        Form::Publish(graph, line, keep, threshold) => {
+            push_names(all, ": Publish ", graph, line)?;
+            write!(all, " {keep} {threshold}")
+        }
+        Form::Unpublish(line) => push_words(all, ": Unpublish ", line),
+        Form::Get(graph, line) => push_names(all, ": Get ", graph, line),
+        Form::CheckoutSid(graph, sid) => {
+            push_words(all, ": CheckoutSid ", graph)?;
+            write!(all, " {sid}")
+        }
+        Form::CheckoutLatest(graph) => push_words(all, ": CheckoutLatest ", graph),
         Form::Release(graph) => push_words(all, ": Release ", graph),
         Form::Show(source) => push_words(all, ": Show ", source),
         Form::Rows(graph) => push_words(all, ": Rows ", graph),

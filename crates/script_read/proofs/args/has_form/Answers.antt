@@ -1,4 +1,4 @@
-use Rattle.std.proofs.Common.{◌≡◌, ◌∙◌, sym, arith}
+use Rattle.std.proofs.Common.{◌∙◌, sym, arith}
 use Rattle.script_read.proofs.DueWords.{no_word_left, word_next, words_end, test_fails, test_passes}
 use Rattle.script_read.proofs.args.has_form.Goals as goal
 use Rattle.script_read.proofs.args.has_form.Goals.{then-i-count-via-then-i-count, then-i-count-via-else-i-count+then-not-may_stand}

@@ -1,4 +1,4 @@
-use Rattle.std.proofs.Common.{◌≡◌, ◌∙◌, sym, arith}
+use Rattle.std.proofs.Common.{◌∙◌, sym, arith}
 use Rattle.script_read.proofs.DueWords.{had_next, why_next, why_end, why_found, why_behind}
 use Rattle.script_read.proofs.args.wrong_word.Goals as goal
 
