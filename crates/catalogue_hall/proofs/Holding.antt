@@ -1,6 +1,6 @@
 -- What a session holds after a call of its own.
 use Rattle.std.proofs.Common.{◌≡◌, ℕ, ◌++◌, List, [], ◌∷◌, Option, Some, None, Bool, true, false, refl, sym, ap, subst, ◌∙◌, map, cond, length}
-use Rattle.std.specs.Prelude.{is_some}
+use Rattle.std.specs.Prelude.{is_some, option_and_then}
 use Rattle.std.specs.Str.{bytes_eq}
 use Rattle.std.proofs.lemmas.Bool.{eq-eqb}
 use Rattle.std.proofs.lemmas.List.{map_push}
@@ -8,16 +8,18 @@ use Rattle.turn_hall.specs.declared.entry.Entry.{Entry}
 use Rattle.turn_hall.specs.Replay.{replay, entry}
 use Rattle.turn_hall.proofs.Histories.{replay-append}
 use Rattle.catalogue.specs.declared.ask.Ask.{Ask}
-use Rattle.catalogue.specs.declared.ask.Ask.TheVariants.{OpenSession, CloseSession, Peek, Place, Derive, Release, Columns}
+use Rattle.catalogue.specs.declared.ask.Ask.TheVariants.{OpenSession, CloseSession, Peek, Place, Derive, Publish, Unpublish, Get, Checkout, Release, Columns, Lines}
+use Rattle.catalogue.specs.declared.ask.Target.{Target}
 use Rattle.catalogue.specs.declared.reply.Reply.{Reply}
 use Rattle.catalogue.specs.declared.reply.Reply.TheVariants.{Sid}
 use Rattle.catalogue.specs.declared.reply.Refusal.{Refusal}
 use Rattle.catalogue.specs.declared.call.Gift.{Gift}
 use Rattle.catalogue.specs.declared.call.Gift.TheVariants as gift
+use Rattle.catalogue.specs.declared.parts.Snap.{Snap}
 use Rattle.catalogue.specs.declared.parts.Held.{Held}
 use Rattle.catalogue.specs.declared.parts.Session.{Session}
-use Rattle.catalogue.specs.State.{Name, State, of_who, named, session_of, held_of, held_in, holds, drop_first}
-use Rattle.catalogue.specs.Step.{Answer, refuse, unless, step, let_go, private_graph, drawn, placed, derived, new_columns}
+use Rattle.catalogue.specs.State.{Name, State, of_who, named, session_of, held_of, held_in, holds, change_first, drop_first}
+use Rattle.catalogue.specs.Step.{Answer, refuse, unless, step, let_go, private_graph, drawn, placed, derived, new_columns, to_pin, to_snap, pin_as, move_to, pin, with_session}
 use Rattle.catalogue.specs.Gift.{gift_of, snap_gift, held_under}
 use Rattle.catalogue.specs.Kept.{IsKept as IsSound}
 use Rattle.catalogue.specs.Desk.{given_keeps}
@@ -25,7 +27,7 @@ use Rattle.catalogue.proofs.Counts.{only_one_dropped}
 use Rattle.catalogue.proofs.Drawing.{find_changed, find_push, session_drawn, held_drawn}
 use Rattle.catalogue_hall.specs.declared.held.Named.{Named}
 use Rattle.catalogue_hall.specs.History.{named_of, is_named, held_by}
-use Rattle.catalogue_hall.specs.Told.{held_after}
+use Rattle.catalogue_hall.specs.Told.{held_after, with_snap}
 
 -- what holds of an answer, where it holds of the refusal and, where the test failed, of what follows
 unless_where : (P : Answer → Type 0) (m : State) (b : Bool) (r : Refusal) (k : Answer) → P (refuse m r) → (b ≡ false → P k) → P (unless m b r k)
@@ -46,6 +48,29 @@ drop_at name h held false e ih = ap (λ l. named_of h ∷ l) ih
 drop_named : (name : Name) (held : List Held) → drop_first (is_named name) (map named_of held) ≡ map named_of (drop_first (named name) held)
 drop_named name [] = refl
 drop_named name (h ∷ held) = drop_at name h held (bytes_eq h.name name) refl (drop_named name held)
+
+move_at : (name : Name) (snap : Snap) (h : Held) (held : List Held) (b : Bool) → named name h ≡ b
+    → change_first (is_named name) (with_snap snap) (map named_of held) ≡ map named_of (change_first (named name) (to_snap snap) held)
+    → cond b (with_snap snap (named_of h) ∷ map named_of held) (named_of h ∷ change_first (is_named name) (with_snap snap) (map named_of held))
+    ≡ map named_of (cond b (to_snap snap h ∷ held) (h ∷ change_first (named name) (to_snap snap) held))
+move_at name snap h held true e ih = refl
+move_at name snap h held false e ih = ap (λ l. named_of h ∷ l) ih
+
+-- a snapshot is put under a name
+move_named : (name : Name) (snap : Snap) (held : List Held)
+    → change_first (is_named name) (with_snap snap) (map named_of held) ≡ map named_of (change_first (named name) (to_snap snap) held)
+move_named name snap [] = refl
+move_named name snap (h ∷ held) = move_at name snap h held (bytes_eq h.name name) refl (move_named name snap held)
+
+pin_at : (name line : Name) (h : Held) (held : List Held) (b : Bool) → map named_of held ≡ map named_of (change_first (named name) (to_pin line) held)
+    → named_of h ∷ map named_of held ≡ map named_of (cond b (to_pin line h ∷ held) (h ∷ change_first (named name) (to_pin line) held))
+pin_at name line h held true ih = refl
+pin_at name line h held false ih = ap (λ l. named_of h ∷ l) ih
+
+-- a graph that is held as a pin keeps its name and its snapshot
+pin_named : (name line : Name) (held : List Held) → map named_of held ≡ map named_of (change_first (named name) (to_pin line) held)
+pin_named name line [] = refl
+pin_named name line (h ∷ held) = pin_at name line h held (named name h) (pin_named name line held)
 
 module _ (m : State) (who : ℕ) (sound : IsSound m) where
   abbrev before : List Named
@@ -70,6 +95,24 @@ module _ (m : State) (who : ℕ) (sound : IsSound m) where
       let there = ap snap_gift (held_drawn m who h new s is (nothing_found (held_of s h.name) free)) in
       ap (held_after before ask (Sid sid)) (gives (drawn m who h new) ∙ there) ∙ after ∙ after_is h new s is
 
+  -- a graph that was published
+  pinned : (name line : Name) (s : Session) → session_of m who ≡ Some s → before ≡ map named_of (holds (with_session m who (pin_as name line)) who)
+  pinned name line s is =
+      before_is s is ∙ pin_named name line s.held
+      ∙ sym (ap (λ (o : Option Session). map named_of (held_in o)) (find_changed (of_who who) (pin_as name line) s m.sessions (λ x. refl) is))
+
+  -- a pin that moved
+  moved : (name : Name) (target : Target) (snap : Snap) (s : Session) (h : Held) → session_of m who ≡ Some s → held_of s name ≡ Some h
+      → Tells (Checkout name target) (Sid snap.sid, with_session m who (move_to name snap))
+  moved name target snap s h is has =
+      let n = with_session m who (move_to name snap) in
+      let now : session_of n who ≡ Some (move_to name snap s) = find_changed (of_who who) (move_to name snap) s m.sessions (λ x. refl) is in
+      let there : held_under n who name ≡ Some (to_snap snap h)
+      = ap (option_and_then (λ (t : Session). held_of t name)) now ∙ find_changed (named name) (to_snap snap) h s.held (λ x. refl) has in
+      ap (λ (o : Option Held). held_after before (Checkout name target) (Sid snap.sid) (snap_gift o)) there
+      ∙ ap (change_first (is_named name) (with_snap snap)) (before_is s is) ∙ move_named name snap s.held
+      ∙ sym (ap (λ (o : Option Session). map named_of (held_in o)) now)
+
   tells : (ask : Ask) → Tells ask (step m who ask)
   tells OpenSession =
       unless_where (Tells OpenSession) m _ _ _ refl (λ closed. unless_where (Tells OpenSession) m _ _ _ refl (λ room.
@@ -92,12 +135,29 @@ module _ (m : State) (who : ℕ) (sound : IsSound m) where
       unless_where T m _ _ _ refl (λ free. unless_where T m _ _ _ refl (λ room.
       let snap = derived m b.snap how in
       came (Derive name base how) (private_graph name None snap) snap.sid (new_columns how) s is free refl (λ n. refl)))))
+  tells (Publish name line keep threshold) =
+      let T = Tells (Publish name line keep threshold) in
+      given_keeps T m (λ r. refl) _ _ _ (λ s is. given_keeps T m (λ r. refl) _ _ _ (λ h js. given_keeps T m (λ r. refl) _ _ _ (λ source ks.
+      unless_where T m _ _ _ refl (λ free. unless_where T m _ _ _ refl (λ room. pinned name line s is)))))
+  tells (Unpublish line) =
+      let T = Tells (Unpublish line) in
+      given_keeps T m (λ r. refl) _ _ _ (λ s is. given_keeps T m (λ r. refl) _ _ _ (λ l js. unless_where T m _ _ _ refl (λ own. refl)))
+  tells (Get line name) =
+      let T = Tells (Get line name) in
+      given_keeps T m (λ r. refl) _ _ _ (λ s is. given_keeps T m (λ r. refl) _ _ _ (λ l js.
+      unless_where T m _ _ _ refl (λ free. unless_where T m _ _ _ refl (λ room. given_keeps T m (λ r. refl) _ _ _ (λ snap ks.
+      came (Get line name) (pin name line snap) snap.sid 0 s is free refl (λ n. refl))))))
+  tells (Checkout name target) =
+      let T = Tells (Checkout name target) in
+      given_keeps T m (λ r. refl) _ _ _ (λ s is. given_keeps T m (λ r. refl) _ _ _ (λ h js. given_keeps T m (λ r. refl) _ _ _ (λ line ks.
+      given_keeps T m (λ r. refl) _ _ _ (λ l ls. given_keeps T m (λ r. refl) _ _ _ (λ snap ms. moved name target snap s h is js)))))
   tells (Release name) =
       let T = Tells (Release name) in
       given_keeps T m (λ r. refl) _ _ _ (λ s is. given_keeps T m (λ r. refl) _ _ _ (λ h js.
       ap (drop_first (is_named name)) (before_is s is) ∙ drop_named name s.held
       ∙ sym (ap (λ (o : Option Session). map named_of (held_in o)) (find_changed (of_who who) (let_go name) s m.sessions (λ x. refl) is))))
   tells Columns = refl
+  tells Lines = refl
 
 -- what a call tells its caller is what it holds after the history with that call
 pub told_is_held : (start : State) (book : List (Entry Ask Reply)) (who : ℕ) (ask : Ask) (reply : Reply) (given : Gift) (held : List Named)

@@ -11,6 +11,7 @@
 #![tactic(auto)]
 
 mod alone;
+mod effect;
 mod held;
 
 pub use alone::{Alone, Told};

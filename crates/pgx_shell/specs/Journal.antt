@@ -1,19 +1,16 @@
 -- The text of a journal.
-use Rattle.std.specs.Prelude.{ℕ, ◌-◌, List, [], ◌++◌, codes, Option, Some, None, slice_get, unwrap_or}
+use Rattle.std.specs.Prelude.{ℕ, List, [], ◌++◌, codes, Option, Some, None}
 use Rattle.std.specs.List.{flat_map}
 use Rattle.std.specs.Fmt.{decimal}
 use Rattle.actor_records.specs.declared.record.Did.TheVariants.{Core, Local, Starved}
-use Rattle.call_text.specs.Asks.{ask_text}
-use Rattle.call_text.specs.Lines.{reply_line}
-use Rattle.call_text.specs.Replies.{reply_text, refusal_text, starved_text}
-use Rattle.graph_text.specs.Text.{text_of}
+use Rattle.journal_text.specs.Asks.{ask_text}
+use Rattle.journal_text.specs.Lines.{reply_line}
+use Rattle.journal_text.specs.Replies.{reply_text, refusal_text, starved_text}
+use Rattle.journal_text.specs.Names.{name_of}
+use Rattle.journal_text.specs.Graphs.{text_of}
 use Rattle.session_run.specs.declared.record.LocalReply.{LocalReply}
 use Rattle.session_run.specs.declared.record.LocalReply.TheVariants.{Done, Rows, Refused}
 use Rattle.session_run.specs.Record.{ActorDid, ActorRecord}
-
--- the name of an actor, counted from 1
-abbrev pub name_of : List (List ℕ) → ℕ → List ℕ
-name_of names who = unwrap_or (slice_get names (who - 1)) []
 
 -- where a record stands: N, or N.J for one that is no core record
 abbrev pub place_text : Option ℕ → ℕ → ℕ → List ℕ
@@ -30,15 +27,15 @@ local_text Done = reply_line (codes "ok") []
 local_text (Rows graph) = text_of graph
 local_text (Refused refusal) = refusal_text refusal
 
--- the call or the command, and the reply lines
-abbrev pub did_text : ActorDid → List ℕ
-did_text (Core ask reply) = ask_text ask ++ codes "\n" ++ reply_text reply
-did_text (Local command reply) = command.line ++ codes "\n" ++ local_text reply
-did_text (Starved head) = head ++ codes "\n" ++ starved_text
+-- the call or the command, and the reply lines; the actors have these names
+abbrev pub did_text : List (List ℕ) → ActorDid → List ℕ
+did_text names (Core ask reply) = ask_text ask ++ codes "\n" ++ reply_text names reply
+did_text names (Local command reply) = command.line ++ codes "\n" ++ local_text reply
+did_text names (Starved head) = head ++ codes "\n" ++ starved_text
 
 -- the head line and the reply lines of a record
 abbrev pub record_text : List (List ℕ) → ActorRecord → List ℕ
-record_text names r = head_text names r ++ did_text r.did
+record_text names r = head_text names r ++ did_text names r.did
 
 abbrev pub journal_text : List (List ℕ) → List ActorRecord → List ℕ
 journal_text names records = flat_map (record_text names) records

@@ -4,7 +4,7 @@ ghost use Rattle.script_read.specs.Phases.{phase_commands as commands_of_phase};
 ghost use Rattle.pgx_shell.specs.Texts.{counts_text as text_of_counts, command_count as commands_of_phases};
 
 use column_types::{List, NoMemory, Text};
-use graph_text::push_count;
+use journal_text::push_count;
 use script_read::{Block, Script};
 use std::alloc::Global;
 

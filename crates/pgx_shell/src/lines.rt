@@ -8,7 +8,7 @@ ghost use Rattle.pgx_shell.specs.declared.stop.Stop.{Stop};
 use crate::Stop;
 use column_types::{NoMemory, Text};
 use graph_config::ConfigFault;
-use graph_text::push_count;
+use journal_text::push_count;
 use script_read::LineWhy;
 use std::alloc::Global;
 

@@ -1,10 +1,11 @@
 //! The text of the journal.
 ghost use Rattle.std.specs.Prelude.{◌≡◌, ◌++◌, IfOk, OnOk};
-ghost use Rattle.pgx_shell.specs.Journal.{journal_text, record_text, did_text, local_text, head_text, place_text, name_of};
+ghost use Rattle.pgx_shell.specs.Journal.{journal_text, record_text, did_text, local_text, head_text, place_text};
 
-use call_text::{push_ask, push_refusal, push_reply, push_starved};
 use column_types::{NoMemory, Text};
-use graph_text::{graph_text, push_count};
+use journal_text::{
+    graph_text, name_of, push_ask, push_count, push_refusal, push_reply, push_starved,
+};
 use session_run::{Did, LocalReply, Record};
 use std::alloc::Global;
 use std::thread::Threads;
@@ -34,18 +35,18 @@ fn push_record(
     ensures { OnOk result (text.new ≡ text.old ++ record_text names.now entry.now) }
 {
     push_head(text, entry, names)?;
-    push_did(alloc, text, &entry.did)
+    push_did(alloc, text, &entry.did, names)
 }
 
-/// Appends the call or the command, and its reply lines.
-fn push_did(alloc: Global, text: &mut Text, did: &Did) -> Result<(), NoMemory>
-    ensures { OnOk result (text.new ≡ text.old ++ did_text did.now) }
+/// Appends the call or the command, and its reply lines. The actors have these names.
+fn push_did(alloc: Global, text: &mut Text, did: &Did, names: &[Text]) -> Result<(), NoMemory>
+    ensures { OnOk result (text.new ≡ text.old ++ did_text names.now did.now) }
 {
     match did {
         Did::Core(ask, reply) => {
             push_ask(text, ask)?;
             text.push("\n")?;
-            push_reply(text, reply)?;
+            push_reply(text, reply, names)?;
         }
         Did::Local(command, reply) => {
             text.push(command.line.as_str())?;
@@ -83,16 +84,6 @@ fn push_place(text: &mut Text, number: Option<u64>, after: u64, index: u32) -> R
             text.push(".")?;
             push_count(text, u64::from(index))
         }
-    }
-}
-
-/// The name of an actor, counted from 1; empty for a number past the last.
-fn name_of(names: &[Text], who: u32) -> &str
-    ensures { result.now ≡ name_of names.now who }
-{
-    match names.get((who as usize).saturating_sub(1)) {
-        Some(name) => name.as_str(),
-        None => "",
     }
 }
 

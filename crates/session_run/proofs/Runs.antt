@@ -8,7 +8,7 @@ use Rattle.catalogue.specs.Bound.{data_of}
 use Rattle.catalogue.specs.declared.ask.Ask.{Ask}
 use Rattle.catalogue.specs.declared.reply.Reply.{Reply}
 use Rattle.catalogue.specs.declared.parts.SourceData.{SourceData}
-use Rattle.call_text.specs.Asks.{ask_text}
+use Rattle.journal_text.specs.Asks.{ask_text}
 use Rattle.script_read.specs.declared.script.Command.{Command}
 use Rattle.session_run.specs.Own.{own_local}
 use Rattle.session_run.specs.Next.{next_call, is_local}

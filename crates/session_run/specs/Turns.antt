@@ -12,7 +12,7 @@ use Rattle.catalogue.specs.declared.reply.Reply.{Reply}
 use Rattle.catalogue.specs.declared.parts.SourceData.{SourceData}
 use Rattle.catalogue_hall.specs.declared.held.Named.{Named}
 use Rattle.catalogue_hall.specs.History.{History, held_by}
-use Rattle.call_text.specs.Asks.{ask_text}
+use Rattle.journal_text.specs.Asks.{ask_text}
 use Rattle.script_read.specs.declared.script.Command.{Command}
 use Rattle.session_run.specs.declared.place.Place.{Place}
 use Rattle.session_run.specs.declared.actor.Actor.{Actor}

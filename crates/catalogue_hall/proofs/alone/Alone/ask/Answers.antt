@@ -1,7 +1,8 @@
-use Rattle.std.proofs.Common.{◌≡◌, ◌∙◌, ◌++◌, ◌∷◌, [], length, ◌<◌, ◌-◌, get_or, sym, ap, subst}
+use Rattle.std.proofs.Common.{◌≡◌, ◌∙◌, List, ◌++◌, ◌∷◌, [], length, ◌<◌, sym, ap, subst}
 use Rattle.turn_hall.specs.Replay.{replay, entry}
 use Rattle.turn_hall.proofs.Grown.{grown_state}
 use Rattle.catalogue.specs.declared.reply.Reply.{Reply}
+use Rattle.catalogue.specs.declared.call.Gift.{Gift}
 use Rattle.catalogue.specs.State.{State}
 use Rattle.catalogue.specs.Step.{step}
 use Rattle.catalogue.specs.Bound.{opening, IsReady}
@@ -9,10 +10,17 @@ use Rattle.catalogue.specs.Gift.{gift_of}
 use Rattle.catalogue.specs.Kept.{IsKept as IsSound}
 use Rattle.catalogue.specs.Desk.{calls_get_ready}
 use Rattle.catalogue_hall.specs.History.{History, held_by}
-use Rattle.catalogue_hall.specs.Told.{held_after}
+use Rattle.catalogue_hall.specs.declared.effect.Effect.{Effect}
+use Rattle.catalogue_hall.specs.declared.held.Named.{Named}
+use Rattle.catalogue_hall.specs.Told.{effect_of, held_by_reply, held_after}
 use Rattle.catalogue_hall.proofs.Holding.{told_is_held}
-use Rattle.catalogue_hall.proofs.LastCall.{last_put}
 use Rattle.catalogue_hall.proofs.alone.Alone.ask.Goals as goal
+
+-- what is held, by what is equal to it
+told_by : (after before held : List Named) (effect made : Effect) (reply : Reply) (given : Gift)
+    → after ≡ held_by_reply before effect reply given → before ≡ held → effect ≡ made → after ≡ held_by_reply held made reply given
+told_by after before held effect made reply given told same is =
+    told ∙ ap (λ (l : List Named). held_by_reply l effect reply given) same ∙ ap (λ (e : Effect). held_by_reply held e reply given) is
 
 pub call-requires-clause-ready : goal.call-requires-clause-ready
 call-requires-clause-ready g c κs within =
@@ -32,12 +40,8 @@ returns-clause-held g c =
     let given = c.in_ok-reply.gift in
     let h = c.in_ok-reply.ensures in
     let longer = book ++ entry who ask reply ∷ [] in
-    let at = c.index-book-number.result in
-    let last : at ≡ entry who ask reply
-    = c.index-book-number.is ∙ subst (λ b. get_or b (length b - 1) at ≡ entry who ask reply) (sym (c.book-book.ensures ∙ h.book)) (last_put book (entry who ask reply) at) in
-    let noted : at.note ≡ ask = ap (λ e. e.note) last in
     let told : c.apply_reply.new.graphs.items ≡ held_after c.args.held.now ask reply given
-    = cc (c.apply_reply.ensures, c.in_ok-reserve.ensures.items, c.held.view_is, noted) in
+    = told_by _ _ c.args.held.now _ (effect_of ask) reply given c.apply_reply.ensures (c.in_ok-reserve.ensures.items ∙ c.held.view_is) c.in_ok-effect.ensures in
     let led : replay step start book ≡ before = c.sound.ensures.state in
     let stepped : step before who ask ≡ (reply, after) = h.step in
     let leads : replay step start longer ≡ after = grown_state step start before after who ask reply book stepped led in
