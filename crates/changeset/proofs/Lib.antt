@@ -1,0 +1,10 @@
+pub mod First
+pub mod Tables
+pub mod Telling
+pub mod Degree
+pub mod Found
+pub mod Written
+pub mod Following
+pub mod Fits
+pub mod Ranges
+pub mod Steps

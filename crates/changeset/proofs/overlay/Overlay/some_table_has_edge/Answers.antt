@@ -1,0 +1,17 @@
+use Rattle.std.proofs.Common.{◌<◌, ◌∙◌, length, ap, sym, arith, w64}
+use Rattle.std.proofs.lemmas.Int.{to_z-of_z}
+use Rattle.graph_schema.specs.Schema.{SchemaData}
+use Rattle.changeset.specs.Facts.{is_there}
+use Rattle.changeset.specs.Overlay.{told}
+use Rattle.changeset.proofs.Ranges.{range_any, range_none}
+use Rattle.changeset.proofs.overlay.Overlay.some_table_has_edge.Goals as goal
+
+pub returns-then-has_edge : goal.returns-then-has_edge
+returns-then-has_edge c =
+    let t = c.loop-table.table in
+    let known : t < length c.args.base.now.schema.edges = omega (arith, c.loop-table-test.true, ap length c.edges.ensures, ap (λ (s : SchemaData). length s.edges) c.schema.ensures) in
+    let here = rw (to_z-of_z w64 c.args.key c.ranges.key) at c.has_edge.ensures in
+    sym (range_any (λ u. is_there ((told c.args.base.now c.args.self.now).edge u c.args.key)) (length c.args.base.now.schema.edges) t known (sym here ∙ c.if-has_edge.true))
+
+pub loop-table-preserved : goal.loop-table-preserved
+loop-table-preserved c = range_none _ c.loop-table.table c.loop-table.invariant (sym c.has_edge.ensures ∙ c.if-has_edge.false)

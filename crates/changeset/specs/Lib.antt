@@ -1,0 +1,3 @@
+pub mod Misfit
+pub mod Facts
+pub mod Overlay
