@@ -1,0 +1,31 @@
+use Rattle.std.proofs.Common.{◌≤◌, length, subst, ap, ◌∙◌, arith, rules}
+use Rattle.graph_schema.specs.Schema.{IsSchema}
+use Rattle.graph_schema.specs.declared.schema.VertexTable.{VertexTable}
+use Rattle.graph_schema.proofs.Sound.{few_vertex_props}
+use Rattle.graph_snap.proofs.Taken.{few_at}
+use Rattle.graph_mutate.proofs.EdgeTables.{shape_there, vertex_width}
+use Rattle.graph_mutate.proofs.sorting.vertex_prop_count.Goals as goal
+
+pub overflow_cast-result : goal.overflow_cast-result
+overflow_cast-result c =
+    let s = c.args.base.now.schema in
+    let x = c.index-vertices-table.result in
+    let there = shape_there s.vertices c.vertices.result.now c.args.table x (c.vertices.ensures ∙ ap (λ t. t.vertices) c.schema-2.ensures) c.requires c.index-vertices-table.is in
+    let few = few_at (λ (x : VertexTable). length x.props) s.vertices c.args.table x (few_vertex_props s (subst IsSchema c.schema.ensures c.sound.ensures)) there in
+    let small : c.len.result ≤ 64 = omega (arith, few, c.len.ensures, ap (λ (x : VertexTable). length x.props) c.index-vertices-table.is) in
+    search rules
+
+pub returns-clause-value : goal.returns-clause-value
+returns-clause-value c =
+    let s = c.args.base.now.schema in
+    let x = c.index-vertices-table.result in
+    let there = shape_there s.vertices c.vertices.result.now c.args.table x (c.vertices.ensures ∙ ap (λ t. t.vertices) c.schema-2.ensures) c.requires c.index-vertices-table.is in
+    omega (arith, vertex_width s c.args.table x there, c.len.ensures, ap (λ (x : VertexTable). length x.props) c.index-vertices-table.is)
+
+pub returns-clause-few : goal.returns-clause-few
+returns-clause-few c =
+    let s = c.args.base.now.schema in
+    let x = c.index-vertices-table.result in
+    let there = shape_there s.vertices c.vertices.result.now c.args.table x (c.vertices.ensures ∙ ap (λ t. t.vertices) c.schema-2.ensures) c.requires c.index-vertices-table.is in
+    let few = few_at (λ (x : VertexTable). length x.props) s.vertices c.args.table x (few_vertex_props s (subst IsSchema c.schema.ensures c.sound.ensures)) there in
+    omega (arith, few, c.len.ensures, ap (λ (x : VertexTable). length x.props) c.index-vertices-table.is)

@@ -1,0 +1,11 @@
+use Rattle.std.proofs.Common.{◌≡◌, ◌+◌, ℕ}
+use Rattle.graph_mutate.specs.Simplified.{simplified}
+use Rattle.graph_mutate.proofs.NewTables.{SlotsSoFar}
+use Rattle.graph_mutate.proofs.tables.simplified_slots.Given as goal
+
+abbrev pub invariant-loop-table : goal.invariant-loop-table
+invariant-loop-table g l = record {
+  took : ℕ;
+  steps_are : l.steps ≡ l.fn.steps + took;
+  so_far : SlotsSoFar l.base (simplified l.base).edges l.table l.derived took;
+}

@@ -1,0 +1,13 @@
+pub mod Transposed
+pub mod Undirected
+pub mod Simplified
+pub mod Sorted
+pub mod Ranks
+pub mod VertexTables
+pub mod Mutated
+pub mod Derives
+pub mod Taken
+pub mod Pairs
+pub mod EdgeTables
+pub mod Steps
+pub mod Laws
