@@ -1,6 +1,6 @@
 -- counts of edge ends
 use Rattle.std.proofs.Common.{◌≡◌, ◌≢◌, ℕ, ◌+◌, ◌<◌, ◌≤◌, All, Bool, true, false, cond, List, [], ◌∷◌, get_or, drop, length, map, refl, ap, sym, ◌∙◌, arith, if◌then◌else◌}
-use Rattle.std.specs.Prelude.{count_by, sum_by, ◌&&◌, ◌==◌}
+use Rattle.std.specs.Prelude.{count_by, filter, sum_by, ◌&&◌, ◌==◌}
 use Rattle.std.proofs.lemmas.Bool.{and_parts, and_from, false≢true}
 use Rattle.std.proofs.lemmas.Bool.Decides.{nat_tests}
 use Rattle.std.proofs.lemmas.List.{get_or-drop, drop-drop}
@@ -71,6 +71,17 @@ module _ (full : List (ℕ × ℕ)) (f : ℕ × ℕ → ℕ) (t : ℕ × ℕ →
 
   pub row_count : count_by (λ e. t (get_or full e (0, 0))) (places_of (map f full) v) ≡ count_by (λ p. (f p == v) && t p) full
   row_count = counted_from full 0 refl
+
+-- where a filter keeps all that a test passes, as many pass it
+module _ {X : Type 0} (p q : X → Bool) (keeps : (x : X) → q x ≡ true → p x ≡ true) where
+  kept_by : (x : X) (xs : List X) (b c : Bool) → p x ≡ b → q x ≡ c → count_by q (filter p xs) ≡ count_by q xs → count_by q (cond b (x ∷ filter p xs) (filter p xs)) ≡ count_by q (x ∷ xs)
+  kept_by x xs true c e f ih = omega (arith, ih, sum_by-cons (λ y. cond (q y) 1 0) x (filter p xs), sum_by-cons (λ y. cond (q y) 1 0) x xs)
+  kept_by x xs false true e f ih = absurd (false≢true (sym e ∙ keeps x f))
+  kept_by x xs false false e f ih = omega (arith, ih, sum_by-cons (λ y. cond (q y) 1 0) x xs, ap {B = ℕ} (λ b. cond b 1 0) f)
+
+  pub count_filtered : (xs : List X) → count_by q (filter p xs) ≡ count_by q xs
+  count_filtered [] = refl
+  count_filtered (x ∷ xs) = kept_by x xs (p x) (q x) refl refl (count_filtered xs)
 
 first_in : (a b c : Bool) → (a ≡ true → b ≡ true) → (a && c) ≡ (a && (b && c))
 first_in true true c h = refl

@@ -1,3 +1,4 @@
 pub mod Counts
 pub mod Peels
 pub mod Levels
+pub mod Waves

@@ -1,8 +1,8 @@
 -- vertices get their numbers and go
 use Rattle.std.proofs.Common.{◌≡◌, ◌≢◌, ℕ, ◌+◌, ◌-◌, ◌<◌, ◌≤◌, ◌⊎◌, inl, inr, max, true, false, cond, List, [], ◌∷◌, ◌++◌, Option, Some, None, length, map, take, set, replicate, slice_index, refl, ap, sym, ◌∙◌, subst, arith, get_or-set_same, get_or-set_other}
-use Rattle.std.specs.Prelude.{count_by, sum, is_some, Contains, ◌&&◌, ◌==◌}
+use Rattle.std.specs.Prelude.{count_by, filter, flat_map, sum, is_some, Contains, ◌&&◌, ◌==◌}
 use Rattle.std.specs.Option.{is_none}
-use Rattle.std.proofs.lemmas.Bool.{cases_eq, cases_lt, false≢true}
+use Rattle.std.proofs.lemmas.Bool.{cases_eq, cases_lt, false≢true, lt-ltb}
 use Rattle.std.proofs.lemmas.Bool.Decides.{nat_tests}
 use Rattle.std.proofs.lemmas.List.{length-set, length_push, length-replicate, get_or-replicate, get_or_past, take_more}
 use Rattle.std.proofs.lemmas.List.Sums.{sum_by-append, sum_by-cons, sum_by-set}
@@ -12,8 +12,8 @@ use Rattle.algo_digraph.specs.declared.arcs.Arc.{Arc}
 use Rattle.algo_digraph.specs.Digraph.{Digraph}
 use Rattle.algo_digraph.specs.Arcs.{out_arcs, in_arcs}
 use Rattle.algo_digraph.specs.Cores.{ends_inside, IsInCore, IsCoreNumber}
-use Rattle.algo_core.specs.Peeling.{core_of, is_left, IsPeeling, IsLowering, IsNumbering}
-use Rattle.algo_core.proofs.Counts.{more_ends, ends_lost, target_count, source_count}
+use Rattle.algo_core.specs.Peeling.{core_of, is_above, is_left, neighbors, AreNumbered, IsPeeling, IsLowering, IsNumbering}
+use Rattle.algo_core.proofs.Counts.{more_ends, ends_lost, target_count, source_count, count_filtered}
 
 -- ---- numbers that are there or not
 
@@ -80,14 +80,14 @@ module _ (g : Digraph) (level : ℕ) (cores : List (Option ℕ)) (ends : List �
     long = peeling.long;
     counts = peeling.counts;
     right = peeling.right;
-    counted = peeling.counted;
+    counted = λ v h. omega (arith, least v h, peeling.counted v h);
     deep = λ v h.
         elim (cases_lt level m) [
           | inl less ↦ (let top : m ≡ max level m = omega arith in subst (IsInCore g v) top (record {
             set = is_left cores;
             vertices = λ u m. omega (arith, left_within cores u m, peeling.long);
             holds = h;
-            ends = λ u m'. omega (arith, least u m', peeling.counted u m');
+            ends = λ u m'. omega (arith, less, least u m', peeling.counted u m');
           }))
           | inr ge ↦ (let top : level ≡ max level m = omega arith in subst (IsInCore g v) top (peeling.deep v h))
         ];
@@ -114,7 +114,7 @@ module _ (g : Digraph) (level : ℕ) (cores new : List (Option ℕ)) (ends ends'
   above_new v k h more was (inl none) = none_left (core_of new v) none
   above_new v k h more was (inr got) = absurd (omega (arith, more, no_more g level cores ends peeling v was (low v got.1) k h))
 
-  pub peeled : length ends' ≡ g.vertices → ((v : ℕ) → is_left new v ≡ true → slice_index ends' v ≡ ends_inside g (is_left new) v) → IsPeeling g level new ends'
+  pub peeled : length ends' ≡ g.vertices → ((v : ℕ) → is_left new v ≡ true → slice_index ends' v ≡ max level (ends_inside g (is_left new) v)) → IsPeeling g level new ends'
   peeled counts counted = record {
     long = numbering.long ∙ peeling.long;
     counts = counts;
@@ -202,10 +202,10 @@ numbering_more level queue i old mid new lt one two =
 
 -- ---- counts that fall: none, one, and one after another
 
-pub lowering_none : (cores : List (Option ℕ)) (level : ℕ) (ends queue : List ℕ) → IsLowering cores level [] ends ends queue queue
-lowering_none cores level ends queue = record {
+pub lowering_none : (level : ℕ) (ends queue : List ℕ) → IsLowering level [] ends ends queue queue
+lowering_none level ends queue = record {
   long = refl;
-  each = λ w h. omega arith;
+  each = λ w h. omega (arith, h);
   queued = λ w h. inl h;
   stays = λ w h. h;
   less = λ w. omega arith;
@@ -219,41 +219,49 @@ once w = (let same : (w == w) ≡ true = grind (arith, nat_tests) in omega (arit
 never : (w u : ℕ) → u ≢ w → count_by (λ x. x == u) (w ∷ []) ≡ 0
 never w u ne = (let other : (w == u) ≡ false = grind (arith, nat_tests) in omega (arith, sum_by-cons (λ x. cond (x == u) 1 0) w [], ap {B = ℕ} (λ b. cond b 1 0) other))
 
--- a vertex that has its number is passed over
-pub lowering_gone : (cores : List (Option ℕ)) (level w : ℕ) (ends queue : List ℕ) → core_of cores w ≢ None → IsLowering cores level (w ∷ []) ends ends queue queue
-lowering_gone cores level w ends queue ne = record {
+-- a count that is not above the level does not fall
+pub lowering_low : (level w : ℕ) (ends queue : List ℕ) → slice_index ends w ≤ level → IsLowering level (w ∷ []) ends ends queue queue
+lowering_low level w ends queue low = record {
   long = refl;
-  each = λ u h. let apart : u ≢ w = λ e. ne (ap (core_of cores) (sym e) ∙ left_none (core_of cores u) h) in omega (arith, never w u apart);
+  each = λ u h.
+      elim (cases_eq u w) [
+        | inl e ↦ omega (arith, h, low, ap (slice_index ends) e)
+        | inr ne ↦ omega (arith, h, never w u ne)
+      ];
   queued = λ u h. inl h;
   stays = λ u h. h;
   less = λ u. omega arith;
   work = omega arith;
 }
 
-module _ (cores : List (Option ℕ)) (level w : ℕ) (ends queue : List ℕ) (lt : w < length ends) where
+module _ (level w : ℕ) (ends queue : List ℕ) (lt : w < length ends) (above : level < slice_index ends w) where
   lowered_at : slice_index (set ends w (slice_index ends w - 1)) w ≡ slice_index ends w - 1
   lowered_at = get_or-set_same ends w (slice_index ends w - 1) 0 lt
 
   lowered_else : (u : ℕ) → u ≢ w → slice_index (set ends w (slice_index ends w - 1)) u ≡ slice_index ends u
   lowered_else u ne = get_or-set_other ends w u (slice_index ends w - 1) 0 ne
 
-  each_lowered : (u : ℕ) → slice_index (set ends w (slice_index ends w - 1)) u ≡ slice_index ends u - count_by (λ x. x == u) (w ∷ [])
-  each_lowered u =
+  each_lowered : (u : ℕ) → level ≤ slice_index ends u → slice_index (set ends w (slice_index ends w - 1)) u ≡ max level (slice_index ends u - count_by (λ x. x == u) (w ∷ []))
+  each_lowered u h =
       elim (cases_eq u w) [
-        | inl e ↦ subst (λ x. slice_index (set ends w (slice_index ends w - 1)) x ≡ slice_index ends x - count_by (λ y. y == x) (w ∷ [])) (sym e) (omega (arith, lowered_at, once w))
-        | inr ne ↦ omega (arith, lowered_else u ne, never w u ne)
+        | inl e ↦ subst (λ x. slice_index (set ends w (slice_index ends w - 1)) x ≡ max level (slice_index ends x - count_by (λ y. y == x) (w ∷ []))) (sym e) (omega (arith, above, lowered_at, once w))
+        | inr ne ↦ omega (arith, h, lowered_else u ne, never w u ne)
       ]
 
   less_lowered : (u : ℕ) → slice_index (set ends w (slice_index ends w - 1)) u ≤ slice_index ends u
-  less_lowered u = omega (arith, each_lowered u)
+  less_lowered u =
+      elim (cases_eq u w) [
+        | inl e ↦ subst (λ x. slice_index (set ends w (slice_index ends w - 1)) x ≤ slice_index ends x) (sym e) (omega (arith, lowered_at))
+        | inr ne ↦ omega (arith, lowered_else u ne)
+      ]
 
   sum_lowered : sum (set ends w (slice_index ends w - 1)) + slice_index ends w ≡ sum ends + (slice_index ends w - 1)
   sum_lowered = sum_by-set (λ x. x) ends w (slice_index ends w - 1) 0 lt
 
-  pub lowering_one : IsLowering cores level (w ∷ []) ends (set ends w (slice_index ends w - 1)) queue queue
+  pub lowering_one : IsLowering level (w ∷ []) ends (set ends w (slice_index ends w - 1)) queue queue
   lowering_one = record {
     long = length-set ends w (slice_index ends w - 1);
-    each = λ u h. each_lowered u;
+    each = each_lowered;
     queued = λ u h. inl h;
     stays = λ u h. h;
     less = less_lowered;
@@ -261,10 +269,10 @@ module _ (cores : List (Option ℕ)) (level w : ℕ) (ends queue : List ℕ) (lt
   }
 
   -- it came down to the level, and is queued
-  pub lowering_queued : slice_index ends w - 1 < slice_index ends w → slice_index ends w - 1 ≡ level → IsLowering cores level (w ∷ []) ends (set ends w (slice_index ends w - 1)) queue (queue ++ w ∷ [])
-  lowering_queued falls here = record {
+  pub lowering_queued : slice_index ends w - 1 ≤ level → IsLowering level (w ∷ []) ends (set ends w (slice_index ends w - 1)) queue (queue ++ w ∷ [])
+  lowering_queued here = record {
     long = length-set ends w (slice_index ends w - 1);
-    each = λ u h. each_lowered u;
+    each = each_lowered;
     queued = λ u h.
         elim (Contains-push_cases queue w u h) [
           | inl early ↦ inl early
@@ -272,15 +280,21 @@ module _ (cores : List (Option ℕ)) (level w : ℕ) (ends queue : List ℕ) (lt
         ];
     stays = λ u h. Contains-append_left queue (w ∷ []) u h;
     less = less_lowered;
-    work = omega (arith, sum_lowered, falls, length_push queue w);
+    work = omega (arith, sum_lowered, above, length_push queue w);
   }
 
-module _ (cores : List (Option ℕ)) (level : ℕ) (xs ys : List ℕ) (old mid new : List ℕ) (before between after : List ℕ)
-    (one : IsLowering cores level xs old mid before between) (two : IsLowering cores level ys mid new between after) where
-  pub lowering_then : IsLowering cores level (xs ++ ys) old new before after
+module _ (level : ℕ) (xs ys : List ℕ) (old mid new : List ℕ) (before between after : List ℕ)
+    (one : IsLowering level xs old mid before between) (two : IsLowering level ys mid new between after) where
+  each_then : (w : ℕ) → level ≤ slice_index old w → slice_index new w ≡ max level (slice_index old w - count_by (λ x. x == w) (xs ++ ys))
+  each_then w h =
+      let first = one.each w h in
+      let least : level ≤ slice_index mid w = omega (arith, first) in
+      omega (arith, two.each w least, first, sum_by-append (λ x. cond (x == w) 1 0) xs ys)
+
+  pub lowering_then : IsLowering level (xs ++ ys) old new before after
   lowering_then = record {
     long = two.long ∙ one.long;
-    each = λ w h. omega (arith, two.each w h, one.each w h, sum_by-append (λ x. cond (x == w) 1 0) xs ys);
+    each = each_then;
     queued = λ w h.
         elim (two.queued w h) [
           | inl early ↦ elim (one.queued w early) [
@@ -294,39 +308,65 @@ module _ (cores : List (Option ℕ)) (level : ℕ) (xs ys : List ℕ) (old mid n
     work = omega (arith, two.work, one.work);
   }
 
--- ---- a vertex goes, and its neighbors' counts fall
+-- it is enough to list the vertices whose counts are above the level
+module _ (level : ℕ) (xs old new before after : List ℕ) (lowering : IsLowering level (filter (is_above old level) xs) old new before after) where
+  each_listed : (w : ℕ) → level ≤ slice_index old w → slice_index new w ≡ max level (slice_index old w - count_by (λ x. x == w) xs)
+  each_listed w h =
+      elim (cases_lt level (slice_index old w)) [
+        | inl more ↦ omega (arith, lowering.each w h, count_filtered (is_above old level) (λ x. x == w) (λ x q. let same : x ≡ w = grind (arith, nat_tests) in subst (λ y. is_above old level y ≡ true) (sym same) (lt-ltb level (slice_index old w) more)) xs)
+        | inr low ↦ omega (arith, lowering.each w h, low, h)
+      ]
 
-module _ (g : Digraph) (level v : ℕ) (cores : List (Option ℕ)) (ends ends' before after : List ℕ) (lt : v < length cores)
-    (peeling : IsPeeling g level cores ends) (free : core_of cores v ≡ None) (low : slice_index ends v ≤ level)
-    (lowering : IsLowering (set cores v (Some level)) level (map (λ (a : Arc). a.vertex) (out_arcs g v) ++ map (λ (a : Arc). a.vertex) (in_arcs g v)) ends ends' before after) where
-  gone : is_left (set cores v (Some level)) v ≡ false
-  gone = ap is_none (number_at level v cores lt)
+  pub lowering_above : IsLowering level xs old new before after
+  lowering_above = record { long = lowering.long; each = each_listed; queued = lowering.queued; stays = lowering.stays; less = lowering.less; work = lowering.work }
 
-  others : (u : ℕ) → u ≢ v → is_left (set cores v (Some level)) u ≡ is_left cores u
-  others u ne = ap is_none (number_else level v cores lt u ne)
+-- ---- vertices go one after another, and their neighbors' counts fall
 
-  -- how often a neighbor is listed
-  listed : (w : ℕ) → count_by (λ x. x == w) (map (λ (a : Arc). a.vertex) (out_arcs g v) ++ map (λ (a : Arc). a.vertex) (in_arcs g v))
-      ≡ count_by (λ p. (p.0 == v) && (p.1 == w)) g.edges + count_by (λ p. (p.1 == v) && (p.0 == w)) g.edges
-  listed w =
+pub numbered_more : (level : ℕ) (vs : List ℕ) (old new : List (Option ℕ)) (v : ℕ) → AreNumbered level old vs new → v < length new → core_of new v ≡ None → AreNumbered level old (vs ++ v ∷ []) (set new v (Some level))
+numbered_more level [] old new v h lt free = subst (λ c. (v < length c) × (core_of c v ≡ None) × (set c v (Some level) ≡ set new v (Some level))) (sym h) (lt, free, refl)
+numbered_more level (x ∷ vs) old new v h lt free = (h.0, h.1, numbered_more level vs (set old x (Some level)) new v h.2 lt free)
+
+module _ (g : Digraph) (level : ℕ) where
+  -- how often a vertex is a neighbor
+  listed : (v w : ℕ) → count_by (λ x. x == w) (neighbors g v) ≡ count_by (λ p. (p.0 == v) && (p.1 == w)) g.edges + count_by (λ p. (p.1 == v) && (p.0 == w)) g.edges
+  listed v w =
       omega (arith, sum_by-append (λ x. cond (x == w) 1 0) (map (λ (a : Arc). a.vertex) (out_arcs g v)) (map (λ (a : Arc). a.vertex) (in_arcs g v)), target_count g v w, source_count g v w)
 
-  counted_on : (w : ℕ) → is_left (set cores v (Some level)) w ≡ true → slice_index ends' w ≡ ends_inside g (is_left (set cores v (Some level))) w
-  counted_on w h =
-      let apart : w ≢ v = λ e. false≢true (sym gone ∙ ap (is_left (set cores v (Some level))) (sym e) ∙ h) in
-      let was : is_left cores w ≡ true = sym (others w apart) ∙ h in
-      omega (
-        arith,
-        lowering.each w h,
-        listed w,
-        peeling.counted w was,
-        ends_lost g (is_left cores) (is_left (set cores v (Some level))) v w apart (none_left (core_of cores v) free) gone h others,
-      )
+  module _ (v : ℕ) (cores : List (Option ℕ)) (lt : v < length cores) (free : core_of cores v ≡ None) where
+    gone : is_left (set cores v (Some level)) v ≡ false
+    gone = ap is_none (number_at level v cores lt)
 
-  pub vertex_peeled : IsPeeling g level (set cores v (Some level)) ends'
-  vertex_peeled =
-      peeled g level cores (set cores v (Some level)) ends ends' (λ w. w ≡ v) peeling (numbering_one level v cores lt free)
-      (λ w e. omega (arith, ap (slice_index ends) e, low)) (lowering.long ∙ peeling.counts) counted_on
+    others : (u : ℕ) → u ≢ v → is_left (set cores v (Some level)) u ≡ is_left cores u
+    others u ne = ap is_none (number_else level v cores lt u ne)
+
+    one_lost : (w : ℕ) → is_left (set cores v (Some level)) w ≡ true
+        → (is_left cores w ≡ true) × (ends_inside g (is_left cores) w ≡ ends_inside g (is_left (set cores v (Some level))) w + count_by (λ x. x == w) (neighbors g v))
+    one_lost w h =
+        let apart : w ≢ v = λ e. false≢true (sym gone ∙ ap (is_left (set cores v (Some level))) (sym e) ∙ h) in
+        let was : is_left cores w ≡ true = sym (others w apart) ∙ h in
+        (was, omega (arith, listed v w, ends_lost g (is_left cores) (is_left (set cores v (Some level))) v w apart (none_left (core_of cores v) free) gone h others))
+
+  -- what is left was left, and lost an edge end for each time that it is a neighbor
+  all_lost : (vs : List ℕ) (old new : List (Option ℕ)) → AreNumbered level old vs new → (w : ℕ) → is_left new w ≡ true
+      → (is_left old w ≡ true) × (ends_inside g (is_left old) w ≡ ends_inside g (is_left new) w + count_by (λ x. x == w) (flat_map (neighbors g) vs))
+  all_lost [] old new h w l = subst (λ c. (is_left c w ≡ true) × (ends_inside g (is_left c) w ≡ ends_inside g (is_left new) w + 0)) (sym h) (l, omega arith)
+  all_lost (v ∷ vs) old new h w l =
+      let later = all_lost vs (set old v (Some level)) new h.2 w l in
+      let first = one_lost v old h.0 h.1 w later.0 in
+      (first.0, omega (arith, later.1, first.1, sum_by-append (λ x. cond (x == w) 1 0) (neighbors g v) (flat_map (neighbors g) vs)))
+
+module _ (g : Digraph) (level : ℕ) (vs : List ℕ) (cores new : List (Option ℕ)) (ends ends' before after : List ℕ) (Kind : ℕ → Type 0) (peeling : IsPeeling g level cores ends)
+    (turns : AreNumbered level cores vs new) (numbering : IsNumbering Kind level cores new) (low : (v : ℕ) → Kind v → slice_index ends v ≤ level)
+    (lowering : IsLowering level (flat_map (neighbors g) vs) ends ends' before after) where
+  counted_on : (w : ℕ) → is_left new w ≡ true → slice_index ends' w ≡ max level (ends_inside g (is_left new) w)
+  counted_on w h =
+      let lost = all_lost g level vs cores new turns w h in
+      let was = peeling.counted w lost.0 in
+      let least : level ≤ slice_index ends w = omega (arith, was) in
+      omega (arith, lowering.each w least, was, lost.1)
+
+  pub wave_peeled : IsPeeling g level new ends'
+  wave_peeled = peeled g level cores new ends ends' Kind peeling numbering low (lowering.long ∙ peeling.counts) counted_on
 
 -- ---- the start
 
@@ -336,7 +376,7 @@ first_peeling g ends long each = record {
   long = length-replicate {A = Option ℕ} g.vertices None;
   counts = long;
   right = λ v k lt h. absurd (none-some k (sym (get_or-replicate g.vertices v None (Some 0) lt) ∙ h));
-  counted = λ v h. each v (let w = left_within (replicate g.vertices None) v h in omega (arith, w, length-replicate {A = Option ℕ} g.vertices None)) h;
+  counted = λ v h. let w = left_within (replicate g.vertices None) v h in omega (arith, each v (omega (arith, w, length-replicate {A = Option ℕ} g.vertices None)) h);
   deep = λ v h. record {
     set = is_left (replicate g.vertices None);
     vertices = λ u m. omega (arith, left_within (replicate g.vertices None) u m, length-replicate {A = Option ℕ} g.vertices None);

@@ -1,20 +1,16 @@
 //! Core numbers, level by level.
-ghost use Rattle.std.specs.Prelude.{◌≡◌, ◌≢◌, ℕ, ◌+◌, ◌<◌, ◌≤◌, true, IfOk, OnOk, Contains, Some, None, ◌^◌, filter, nat_le, length, slice_index, count_by, replicate};
+ghost use Rattle.std.specs.Prelude.{◌≡◌, ◌≢◌, ℕ, ◌+◌, ◌<◌, ◌≤◌, true, IfOk, OnOk, Contains, Some, None, ◌^◌, filter, nat_le, length, slice_index, replicate};
 ghost use Rattle.std.specs.List.{range_with_len};
 ghost use Rattle.algo_digraph.specs.Arcs.{out_arcs, in_arcs};
-ghost use Rattle.algo_digraph.specs.Cores.{IsCoreNumber, ends_inside};
+ghost use Rattle.algo_digraph.specs.Cores.{IsCoreNumber};
 ghost use Rattle.algo_core.specs.Peeling.{core_of, is_left, IsPeeling, IsNumbering};
 
 use crate::peel::peel_queue;
-use algo_digraph::{FlatDigraph, Marks, is_wide};
+use algo_digraph::{FlatDigraph, Marks};
 use column_types::{List, NoMemory};
 use par_rounds::round;
 use std::alloc::Global;
 use std::thread::Threads;
-
-/// A round counts the edge ends of all that is left, where a queue counts off those of the vertices that go. So a round wants a
-/// level that is so many times wider than that of a search.
-const ROUND_COST: usize = 4;
 
 /// For each vertex its core number in a digraph.
 pub(crate) fn digraph_core_numbers<R: Threads + Sync>(
@@ -75,19 +71,7 @@ fn peel_level<R: Threads + Sync>(
         peel_rest(digraph, cores, ends.as_slice(), queue.as_slice(), level);
         return Ok(());
     }
-    if is_wide(workers, queue.len() / ROUND_COST, digraph.vertex_count()) {
-        return peel_at_once(
-            rt,
-            alloc,
-            digraph,
-            cores,
-            ends,
-            queue.as_slice(),
-            level,
-            workers,
-        );
-    }
-    peel_queue(digraph, cores, ends, queue, level)
+    peel_queue(rt, alloc, digraph, cores, ends, queue, level, workers)
 }
 
 /// Gives all vertices that are left their number, where all of them are queued. Their edge ends are counted no more.
@@ -103,30 +87,6 @@ fn peel_rest(digraph: &FlatDigraph<'_>, cores: &mut Marks, ends: &[u32], queue: 
     let _ = digraph.vertex_count();
     let _ = ends.len();
     number_all(cores, queue, level);
-}
-
-/// Gives all vertices of a queue their number, and counts the edge ends of the others anew.
-fn peel_at_once<R: Threads + Sync>(
-    rt: &R,
-    alloc: Global,
-    digraph: &FlatDigraph<'_>,
-    cores: &mut Marks,
-    ends: &mut List<u32>,
-    queue: &[u32],
-    level: u32,
-    workers: u32,
-) -> Result<(), NoMemory>
-    requires peeling { IsPeeling digraph.now level cores.old ends.old }
-    requires level { level < 2 ^ 31 }
-    requires queued { (v : ℕ) → Contains queue.now v → (v < digraph.now.vertices) × (slice_index ends.old v ≤ level) }
-    requires workers { (1 ≤ workers) × (workers ≤ 64) }
-    ensures peeling { OnOk result (IsPeeling digraph.now level cores.new ends.new) }
-    ensures kept { OnOk result ((v k : ℕ) → core_of cores.old v ≡ Some k → core_of cores.new v ≡ Some k) }
-    ensures gone { OnOk result ((v : ℕ) → Contains queue.now v → core_of cores.new v ≢ None) }
-{
-    number_all(cores, queue, level);
-    *ends = count_ends(rt, alloc, digraph, cores, workers)?;
-    Ok(())
 }
 
 /// Gives all vertices of a queue that have no number this one.
@@ -149,83 +109,6 @@ fn number_vertex(cores: &mut Marks, v: u32, level: u32)
         return;
     }
     cores.set(v, level);
-}
-
-/// For each vertex that is left the number of its edge ends whose other end is left.
-fn count_ends<R: Threads + Sync>(
-    rt: &R,
-    alloc: Global,
-    digraph: &FlatDigraph<'_>,
-    cores: &Marks,
-    workers: u32,
-) -> Result<List<u32>, NoMemory>
-    requires cores { length cores.now ≡ digraph.now.vertices }
-    requires workers { (1 ≤ workers) × (workers ≤ 64) }
-    ensures len { IfOk result (λ ends. length ends ≡ digraph.now.vertices) }
-    ensures each { IfOk result (λ ends. (v : ℕ) → v < digraph.now.vertices → is_left cores.now v ≡ true
-        → slice_index ends v ≡ ends_inside digraph.now (is_left cores.now) v) }
-{
-    round(
-        rt,
-        alloc,
-        workers,
-        digraph.vertex_count(),
-        |v: u32| -> u32
-            requires { (v < digraph.now.vertices) × (length cores.now ≡ digraph.now.vertices) }
-            ensures { is_left cores.entry.now v ≡ true → result ≡ ends_inside digraph.entry.now (is_left cores.entry.now) v }
-        { ends_if_left(digraph, cores, v) },
-    )
-}
-
-/// The number of edge ends of a vertex that is left whose other end is left. It is not counted for a vertex that has gone.
-fn ends_if_left(digraph: &FlatDigraph<'_>, cores: &Marks, v: u32) -> u32
-    requires vertex { v < digraph.now.vertices }
-    requires cores { length cores.now ≡ digraph.now.vertices }
-    ensures { is_left cores.now v ≡ true → result ≡ ends_inside digraph.now (is_left cores.now) v }
-{
-    if !cores.is_free(v) {
-        return 0;
-    }
-    ends_left(digraph, cores, v)
-}
-
-fn ends_left(digraph: &FlatDigraph<'_>, cores: &Marks, v: u32) -> u32
-    requires { length cores.now ≡ digraph.now.vertices }
-    ensures { is_left cores.now v ≡ true → result ≡ ends_inside digraph.now (is_left cores.now) v }
-{
-    targets_left(digraph, cores, v) + sources_left(digraph, cores, v)
-}
-
-/// How many edges go from `v` to vertices that are left.
-fn targets_left(digraph: &FlatDigraph<'_>, cores: &Marks, v: u32) -> u32
-    requires { length cores.now ≡ digraph.now.vertices }
-    ensures count { result ≡ count_by (λ a. is_left cores.now a.vertex) (out_arcs digraph.now v) }
-    ensures small { result ≤ 4194304 }
-{
-    let _ = digraph.vertex_count();
-    let mut count = 0;
-    for arc in digraph.out_arcs(v) {
-        if cores.is_free(arc.vertex) {
-            count += 1;
-        }
-    }
-    count
-}
-
-/// How many edges go to `v` from vertices that are left.
-fn sources_left(digraph: &FlatDigraph<'_>, cores: &Marks, v: u32) -> u32
-    requires { length cores.now ≡ digraph.now.vertices }
-    ensures count { result ≡ count_by (λ a. is_left cores.now a.vertex) (in_arcs digraph.now v) }
-    ensures small { result ≤ 4194304 }
-{
-    let _ = digraph.vertex_count();
-    let mut count = 0;
-    for arc in digraph.in_arcs(v) {
-        if cores.is_free(arc.vertex) {
-            count += 1;
-        }
-    }
-    count
 }
 
 /// For each vertex the number of its edge ends, read off the lengths of its rows.

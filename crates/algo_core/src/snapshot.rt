@@ -15,8 +15,8 @@ use std::thread::Threads;
 /// inside the set. A loop has two ends, parallel edges count each, and edges of all tables count alike.
 ///
 /// The list has an entry for each vertex of the graph, by index: table by table, and in a table by places. It does not depend
-/// on `workers`, the number of threads, from 1 to 64. The snapshot's own rows are read, and the memory is in proportion to the
-/// vertices. Running out of memory is the only error.
+/// on `workers`, the number of threads, from 1 to 64. The snapshot's own rows are read. The memory is in proportion to the vertices,
+/// and with several workers to the vertices and edges. Running out of memory is the only error.
 pub fn core_numbers<R: Threads + Sync>(
     rt: &R,
     alloc: Global,

@@ -1,5 +1,3 @@
 pub mod Marking
 pub mod Walking
-pub mod Spreading
-pub mod LeastLabels
 pub mod Forests

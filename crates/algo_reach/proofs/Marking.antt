@@ -8,7 +8,7 @@ use Rattle.std.proofs.lemmas.List.Elements.{Contains-append_left, Contains-push,
 use Rattle.std.proofs.lemmas.Option.{none-some, same_Some}
 use Rattle.algo_digraph.specs.Digraph.{Digraph}
 use Rattle.algo_digraph.specs.Walks.{Joins}
-use Rattle.algo_reach.specs.Marks.{mark_of, unmarked, HasSource, HasTarget, HasNeighbor, IsMarking, IsPulled}
+use Rattle.algo_reach.specs.Marks.{mark_of, unmarked, HasSource, IsMarking, IsPulled}
 
 -- a vertex has a mark or none
 pub marked_or_not : (o : Option ℕ) → (o ≡ None) ⊎ ((d : ℕ) × (o ≡ Some d))
@@ -255,11 +255,3 @@ module _ (Cause : ℕ → Type 0) (mark : ℕ) (old new : List (Option ℕ)) (fo
   round_keeps v ne none =
       let had = given_mark (mark_of old v) ne in
       none-some had.0 (sym none ∙ pulled_kept (Cause v) v had.0 (mark_of old v) (mark_of new v) (each v (marked_within old v had.0 had.1)) had.1)
-
--- a vertex that is neither a target nor a source of a marked one has no marked neighbor
-no_neighbor_by : (g : Digraph) (marks : List (Option ℕ)) (mark v e u : ℕ) → (HasSource g marks mark v → ⊥) → (HasTarget g marks mark v → ⊥) → Joins g e u v → mark_of marks u ≡ Some mark → ⊥
-no_neighbor_by g marks mark v e u source target (inl h) at = source (e, u, h, at)
-no_neighbor_by g marks mark v e u source target (inr h) at = target (e, u, h, at)
-
-pub no_neighbor : (g : Digraph) (marks : List (Option ℕ)) (mark v : ℕ) → (HasSource g marks mark v → ⊥) → (HasTarget g marks mark v → ⊥) → HasNeighbor g marks mark v → ⊥
-no_neighbor g marks mark v source target h = no_neighbor_by g marks mark v h.0 h.1 source target h.2 h.3

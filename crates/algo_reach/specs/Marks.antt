@@ -1,7 +1,6 @@
 -- How marks spread over a digraph from one level of a search to the next. No public contract names these words.
 use Rattle.std.specs.Prelude.{◌≡◌, ◌≢◌, ◌⊎◌, ℕ, ◌+◌, ◌<◌, List, Option, Some, None, Contains, length, slice_index_or, sum_by}
 use Rattle.algo_digraph.specs.Digraph.{Digraph, Goes}
-use Rattle.algo_digraph.specs.Walks.{Joins, AreConnected}
 
 -- the mark of a vertex, if it has one
 abbrev pub mark_of : List (Option ℕ) → ℕ → Option ℕ
@@ -12,15 +11,9 @@ abbrev pub unmarked : Option ℕ → ℕ
 unmarked None = 1
 unmarked (Some k) = 0
 
--- some vertex with the mark has an edge to v, or an edge either way
+-- some vertex with the mark has an edge to v
 abbrev pub HasSource : Digraph → List (Option ℕ) → ℕ → ℕ → Type 0
 HasSource g marks mark v = (e : ℕ) × (u : ℕ) × Goes g e u v × (mark_of marks u ≡ Some mark)
-
-abbrev pub HasTarget : Digraph → List (Option ℕ) → ℕ → ℕ → Type 0
-HasTarget g marks mark v = (e : ℕ) × (u : ℕ) × Goes g e v u × (mark_of marks u ≡ Some mark)
-
-abbrev pub HasNeighbor : Digraph → List (Option ℕ) → ℕ → ℕ → Type 0
-HasNeighbor g marks mark v = (e : ℕ) × (u : ℕ) × Joins g e u v × (mark_of marks u ≡ Some mark)
 
 -- vertices without a mark, for which a cause stands, got the mark, and the list of new vertices grew by exactly these
 pub record IsMarking (Cause : ℕ → Type 0) (mark : ℕ) (old new : List (Option ℕ)) (before after : List ℕ) : Type 0 where
@@ -37,24 +30,3 @@ abbrev pub IsPulled : (Cause : Type 0) → ℕ → Option ℕ → Option ℕ →
 IsPulled Cause mark (Some d) r = r ≡ Some d
 IsPulled Cause mark None None = Cause → ⊥
 IsPulled Cause mark None (Some d) = (d ≡ mark) × Cause
-
--- joined vertices have equal marks, where one of them has one
-abbrev pub AreUniform : Digraph → List (Option ℕ) → Type 0
-AreUniform g marks = (v d e w : ℕ) → mark_of marks v ≡ Some d → Joins g e v w → mark_of marks w ≡ Some d
-
--- vertices connected to a start without a mark got its mark, and joined vertices have equal marks again
-pub record IsLabelling (g : Digraph) (start : ℕ) (old new : List (Option ℕ)) : Type 0 where
-  pub long : length new ≡ length old
-  pub kept : (v d : ℕ) → mark_of old v ≡ Some d → mark_of new v ≡ Some d
-  pub first : mark_of new start ≢ None
-  pub fresh : (v : ℕ) → mark_of old v ≡ None → (mark_of new v ≡ None) ⊎ ((mark_of new v ≡ Some start) × AreConnected g start v × (mark_of old start ≡ None))
-  pub uniform : AreUniform g new
-
--- the mark of a start spreads along edges, from the vertices of a frontier on
-pub record IsSpreading (g : Digraph) (start : ℕ) (old new : List (Option ℕ)) (frontier : List ℕ) : Type 0 where
-  pub long : length new ≡ length old
-  pub kept : (v d : ℕ) → mark_of old v ≡ Some d → mark_of new v ≡ Some d
-  pub fresh : (v : ℕ) → mark_of old v ≡ None → (mark_of new v ≡ None) ⊎ (mark_of new v ≡ Some start)
-  pub joined : (v : ℕ) → mark_of new v ≡ Some start → AreConnected g start v
-  pub here : (v : ℕ) → Contains frontier v → mark_of new v ≡ Some start
-  pub spread : (v : ℕ) → mark_of new v ≡ Some start → Contains frontier v ⊎ ((e w : ℕ) → Joins g e v w → mark_of new w ≢ None)

@@ -1,4 +1,4 @@
-//! Labels by one thread: trees of vertices that edges join.
+//! Labels of weakly connected components: trees of vertices that edges join.
 ghost use Rattle.std.specs.Prelude.{◌≡◌, ℕ, ◌<◌, ◌≤◌, IfOk, length, slice_index, slice_set};
 ghost use Rattle.algo_digraph.specs.Digraph.{Digraph, Goes};
 ghost use Rattle.algo_digraph.specs.Walks.{AreConnected, IsLabel};

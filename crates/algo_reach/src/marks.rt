@@ -1,7 +1,7 @@
 //! How marks spread along edges.
 ghost use Rattle.std.specs.Prelude.{◌≡◌, ◌≢◌, ◌↔◌, ℕ, ◌+◌, ◌<◌, IsTrue, IfOk, OnOk, Contains, Some, None, length, sum_by};
 ghost use Rattle.algo_digraph.specs.Digraph.{Goes};
-ghost use Rattle.algo_reach.specs.Marks.{mark_of, unmarked, HasSource, HasTarget, IsMarking};
+ghost use Rattle.algo_reach.specs.Marks.{mark_of, unmarked, HasSource, IsMarking};
 
 use algo_digraph::{FlatDigraph, Marks};
 use column_types::{List, NoMemory};
@@ -40,25 +40,6 @@ pub(crate) fn mark_targets(
     Ok(())
 }
 
-/// Marks each vertex without a mark from which an edge goes to `v`, and lists these.
-pub(crate) fn mark_sources(
-    digraph: &FlatDigraph<'_>,
-    marks: &mut Marks,
-    found: &mut List<u32>,
-    v: u32,
-    mark: u32,
-) -> Result<(), NoMemory>
-    requires long { length marks.old ≡ digraph.now.vertices }
-    requires mark { mark < 4294967295 }
-    ensures marking { OnOk result (IsMarking (λ w. (e : ℕ) × Goes digraph.now e w v) mark marks.old marks.new found.old found.new) }
-    ensures all { OnOk result ((e w : ℕ) → Goes digraph.now e w v → mark_of marks.new w ≢ None) }
-{
-    for arc in digraph.in_arcs(v) {
-        mark_vertex(marks, found, arc.vertex, mark)?;
-    }
-    Ok(())
-}
-
 /// Whether an edge goes to `v` from a vertex with the mark.
 pub(crate) fn has_source(digraph: &FlatDigraph<'_>, marks: &Marks, v: u32, mark: u32) -> bool
     requires long { length marks.now ≡ digraph.now.vertices }
@@ -66,20 +47,6 @@ pub(crate) fn has_source(digraph: &FlatDigraph<'_>, marks: &Marks, v: u32, mark:
     ensures { IsTrue result ↔ HasSource digraph.now marks.now mark v }
 {
     for arc in digraph.in_arcs(v) {
-        if marks.has(arc.vertex, mark) {
-            return true;
-        }
-    }
-    false
-}
-
-/// Whether an edge goes from `v` to a vertex with the mark.
-pub(crate) fn has_target(digraph: &FlatDigraph<'_>, marks: &Marks, v: u32, mark: u32) -> bool
-    requires long { length marks.now ≡ digraph.now.vertices }
-    requires mark { mark < 4294967295 }
-    ensures { IsTrue result ↔ HasTarget digraph.now marks.now mark v }
-{
-    for arc in digraph.out_arcs(v) {
         if marks.has(arc.vertex, mark) {
             return true;
         }

@@ -5,7 +5,7 @@ ghost use Rattle.graph_snap.specs.Reading.{HasVertex};
 ghost use Rattle.algo_digraph.specs.Walks.{IsHopDistance, IsLabel};
 ghost use Rattle.algo_digraph.specs.DigraphOf.{digraph_of, table_sizes, index_of};
 
-use crate::labels::digraph_components;
+use crate::forest::forest_components;
 use crate::levels::digraph_hops;
 use algo_digraph::{FlatDigraph, VertexOrder};
 use column_types::{List, NoMemory};
@@ -41,21 +41,21 @@ pub fn hops<R: Threads + Sync>(
 /// For each vertex the least index of the vertices that are connected to it, itself among them. Edges of all tables are taken
 /// either way, so two vertices have the same label exactly where they lie in one weakly connected component.
 ///
-/// The list has an entry for each vertex of the graph, by index: table by table, and in a table by places. It does not depend
-/// on `workers`, the number of threads, from 1 to 64. The snapshot's own rows are read, and the memory is in proportion to the
+/// The list has an entry for each vertex of the graph, by index: table by table, and in a table by places. One thread makes it,
+/// whatever number of workers, from 1 to 64, is given. The snapshot's own rows are read, and the memory is in proportion to the
 /// vertices. Running out of memory is the only error.
 pub fn components<R: Threads + Sync>(
-    rt: &R,
+    _rt: &R,
     alloc: Global,
     on: &Snapshot,
-    workers: u32,
+    _workers: u32,
 ) -> Result<List<u64>, NoMemory>
-    requires workers { (1 ≤ workers) × (workers ≤ 64) }
+    requires workers { (1 ≤ _workers) × (_workers ≤ 64) }
     ensures len { IfOk result (λ labels. length labels ≡ vertex_total on.now) }
     ensures each { IfOk result (λ labels. (v : ℕ) → v < vertex_total on.now → IsLabel (digraph_of on.now) v (slice_index labels v)) }
 {
     let order = VertexOrder::new(alloc, on)?;
     let digraph = FlatDigraph::new(alloc, on, &order)?;
-    let labels = digraph_components(rt, alloc, &digraph, workers)?;
+    let labels = forest_components(alloc, &digraph)?;
     Ok(labels)
 }
