@@ -8,7 +8,7 @@ use crate::texts::{push_answer, push_bare_reply};
 use catalogue::{Ask, Call, Catalogue, Gift, Made, Reply};
 use column_types::{List, NoMemory, Steps, Text};
 use graph_model::Graph;
-use graph_text::push_count;
+use journal_text::push_count;
 use std::alloc::Global;
 use std::marker::Brand;
 use std::sync::ledger::{Blank, Ledger};

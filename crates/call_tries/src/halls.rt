@@ -9,7 +9,7 @@ use catalogue::{Ask, Snap};
 use catalogue_hall::Told;
 use column_types::{NoMemory, Steps, Text};
 use graph_model::Graph;
-use graph_text::push_count;
+use journal_text::push_count;
 use std::alloc::Global;
 use std::marker::Brand;
 use std::sync::ledger::{Blank, Ledger};

@@ -10,7 +10,8 @@
 //! * `hall`: first `s` or `none`, the source of a new catalogue with its history; then calls of session 1, answered by their number
 //!   and reply; `snap G`, the snapshot that the session holds under a name; `count`, the length of the history; `sources`, their number.
 //! * `call`, `reply`, `refusal`: the text of calls; of replies, which are written as `Done`, `Front 3`, `Sid 1`, `Columns 1 2`,
-//!   `Refused REFUSAL` and `NoMemory`; and of refusals, as `NoSource s`. The text of each part is appended to that of those before.
+//!   `Lines people 1 s 2 10 3:0, towns 3 none 1 1 4:0`, `Refused REFUSAL` and `NoMemory`; and of refusals, as `NoSource s`. The text of
+//!   each part is appended to that of those before. The actors 1, 2 and 3 have the names `alice`, `bob` and `carol`.
 //! * `next`: a command of a script, and the replies to its calls so far. The answer is its next call, or `nothing`.
 //! * `walk`: the callers of a history in order, or `none`, and then a part for each actor with its records: `3` is the core record of
 //!   that number, `2.1` another one after it, and `2.1!` one of a call that found no memory. The answer is their order in the

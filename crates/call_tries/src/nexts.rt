@@ -1,8 +1,8 @@
 //! The calls of a command.
 use crate::read_replies::read_all_replies;
-use call_text::push_ask;
 use catalogue::Ask;
 use column_types::{NoMemory, Text};
+use journal_text::push_ask;
 use script_read::{Command, Script, read_script};
 use session_run::{Own, next_ask};
 use std::alloc::Global;

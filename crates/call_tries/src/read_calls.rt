@@ -1,5 +1,5 @@
 //! Calls from their texts.
-use catalogue::{Ask, How, Mutation};
+use catalogue::{Ask, How, Mutation, Target};
 use column_types::{NoMemory, Text};
 use std::alloc::Global;
 
@@ -10,9 +10,14 @@ pub fn read_call(alloc: Global, text: &str) -> Result<Option<Ask>, NoMemory> {
         "open" => Ok(Some(Ask::OpenSession)),
         "close" => Ok(Some(Ask::CloseSession)),
         "columns" => Ok(Some(Ask::Columns)),
+        "lines" => Ok(Some(Ask::Lines)),
         "peek" => {
             let source = Text::from_str(alloc, rest)?;
             Ok(Some(Ask::Peek { source }))
+        }
+        "unpublish" => {
+            let line = Text::from_str(alloc, rest)?;
+            Ok(Some(Ask::Unpublish { line }))
         }
         "release" => {
             let name = Text::from_str(alloc, rest)?;
@@ -20,6 +25,9 @@ pub fn read_call(alloc: Global, text: &str) -> Result<Option<Ask>, NoMemory> {
         }
         "place" => read_place(alloc, rest),
         "derive" => read_derive(alloc, rest),
+        "publish" => read_publish(alloc, rest),
+        "get" => read_get(alloc, rest),
+        "checkout" => read_checkout(alloc, rest),
         _ => Ok(None),
     }
 }
@@ -55,4 +63,53 @@ fn read_derive(alloc: Global, text: &str) -> Result<Option<Ask>, NoMemory> {
         base: Text::from_str(alloc, base)?,
         how: How::Mutate(Mutation::Clone),
     }))
+}
+
+/// The call of `G as L keep K threshold T`.
+fn read_publish(alloc: Global, text: &str) -> Result<Option<Ask>, NoMemory> {
+    let Some((name, rest)) = text.split_once(" as ") else {
+        return Ok(None);
+    };
+    let Some((line, rest)) = rest.split_once(" keep ") else {
+        return Ok(None);
+    };
+    let Some((keep, threshold)) = rest.split_once(" threshold ") else {
+        return Ok(None);
+    };
+    let (Ok(keep), Ok(threshold)) = (keep.parse::<u32>(), threshold.parse::<u64>()) else {
+        return Ok(None);
+    };
+    Ok(Some(Ask::Publish {
+        name: Text::from_str(alloc, name)?,
+        line: Text::from_str(alloc, line)?,
+        keep,
+        threshold,
+    }))
+}
+
+/// The call of `G from L`.
+fn read_get(alloc: Global, text: &str) -> Result<Option<Ask>, NoMemory> {
+    let Some((name, line)) = text.split_once(" from ") else {
+        return Ok(None);
+    };
+    Ok(Some(Ask::Get {
+        line: Text::from_str(alloc, line)?,
+        name: Text::from_str(alloc, name)?,
+    }))
+}
+
+/// The call of `G at SID` or `G at latest`.
+fn read_checkout(alloc: Global, text: &str) -> Result<Option<Ask>, NoMemory> {
+    let Some((name, target)) = text.split_once(" at ") else {
+        return Ok(None);
+    };
+    let target = match target {
+        "latest" => Some(Target::Latest),
+        _ => target.parse::<u64>().ok().map(Target::Sid),
+    };
+    let Some(target) = target else {
+        return Ok(None);
+    };
+    let name = Text::from_str(alloc, name)?;
+    Ok(Some(Ask::Checkout { name, target }))
 }

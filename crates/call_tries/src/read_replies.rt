@@ -1,5 +1,5 @@
 //! Replies and refusals from their names and values.
-use catalogue::{Refusal, Reply};
+use catalogue::{LineInfo, Refusal, Reply};
 use column_types::{List, NoMemory, Text};
 use std::alloc::Global;
 
@@ -11,6 +11,7 @@ pub fn read_reply(alloc: Global, text: &str) -> Result<Option<Reply>, NoMemory> 
         "Front" => Ok(rest.parse::<u64>().ok().map(Reply::Front)),
         "Sid" => Ok(rest.parse::<u64>().ok().map(Reply::Sid)),
         "Columns" => Ok(Some(Reply::Columns(read_numbers(alloc, rest)?))),
+        "Lines" => Ok(Some(Reply::Lines(read_infos(alloc, rest)?))),
         "Refused" => Ok(read_refusal(alloc, rest)?.map(Reply::Refused)),
         _ => Ok(None),
     }
@@ -38,14 +39,71 @@ fn read_numbers(alloc: Global, words: &str) -> Result<List<u64>, NoMemory> {
     Ok(numbers)
 }
 
+/// The published graphs of texts as `people 1 s 2 10 3:0 5:4` with `, ` between them.
+fn read_infos(alloc: Global, texts: &str) -> Result<List<LineInfo>, NoMemory> {
+    let mut infos = List::new(alloc);
+    for text in texts.split(", ") {
+        if let Some(info) = read_info(alloc, text)? {
+            infos.push(info)?;
+        }
+    }
+    Ok(infos)
+}
+
+/// A published graph: its name, the number of its owner, its source or `none`, how many snapshots it keeps, its threshold, and its
+/// snapshots.
+fn read_info(alloc: Global, text: &str) -> Result<Option<LineInfo>, NoMemory> {
+    let mut words = text.split(' ');
+    let (Some(name), Some(owner), Some(source)) = (words.next(), words.next(), words.next()) else {
+        return Ok(None);
+    };
+    let (Some(keep), Some(threshold)) = (words.next(), words.next()) else {
+        return Ok(None);
+    };
+    let (Ok(owner), Ok(keep), Ok(threshold)) = (owner.parse(), keep.parse(), threshold.parse())
+    else {
+        return Ok(None);
+    };
+    Ok(Some(LineInfo {
+        name: Text::from_str(alloc, name)?,
+        owner,
+        source: read_source(alloc, source)?,
+        keep,
+        threshold,
+        snaps: read_snaps(alloc, text)?,
+    }))
+}
+
+fn read_source(alloc: Global, word: &str) -> Result<Option<Text>, NoMemory> {
+    match word {
+        "none" => Ok(None),
+        _ => Ok(Some(Text::from_str(alloc, word)?)),
+    }
+}
+
+/// The snapshots among words, as `3:0`: an id and a front.
+fn read_snaps(alloc: Global, words: &str) -> Result<List<(u64, u64)>, NoMemory> {
+    let mut snaps = List::new(alloc);
+    for word in words.split(' ') {
+        if let Some((sid, front)) = word.split_once(':') {
+            if let (Ok(sid), Ok(front)) = (sid.parse::<u64>(), front.parse::<u64>()) {
+                snaps.push((sid, front))?;
+            }
+        }
+    }
+    Ok(snaps)
+}
+
 /// The refusal that a text stands for, as `NoSource s`. None where it stands for none.
 pub fn read_refusal(alloc: Global, text: &str) -> Result<Option<Refusal>, NoMemory> {
     let (name, value) = text.split_once(' ').unwrap_or((text, ""));
     match name {
         "SessionsFull" => Ok(Some(Refusal::SessionsFull)),
         "GraphsFull" => Ok(Some(Refusal::GraphsFull)),
+        "LinesFull" => Ok(Some(Refusal::LinesFull)),
         "NotOpen" => Ok(Some(Refusal::NotOpen)),
         "AlreadyOpen" => Ok(Some(Refusal::AlreadyOpen)),
+        "NoSnapshot" => Ok(value.parse::<u64>().ok().map(Refusal::NoSnapshot)),
         "NotVisible" => Ok(value.parse::<u64>().ok().map(Refusal::NotVisible)),
         _ => read_named_refusal(name, Text::from_str(alloc, value)?),
     }
@@ -57,6 +115,11 @@ fn read_named_refusal(name: &str, value: Text) -> Result<Option<Refusal>, NoMemo
         "NoSource" => Ok(Some(Refusal::NoSource(value))),
         "NameTaken" => Ok(Some(Refusal::NameTaken(value))),
         "NoName" => Ok(Some(Refusal::NoName(value))),
+        "NotPrivate" => Ok(Some(Refusal::NotPrivate(value))),
+        "LineTaken" => Ok(Some(Refusal::LineTaken(value))),
+        "NoLine" => Ok(Some(Refusal::NoLine(value))),
+        "NotOwner" => Ok(Some(Refusal::NotOwner(value))),
+        "NotPinned" => Ok(Some(Refusal::NotPinned(value))),
         _ => Ok(None),
     }
 }

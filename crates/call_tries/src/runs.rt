@@ -1,6 +1,6 @@
 //! Answers of which equal ones are counted.
 use column_types::{NoMemory, Text};
-use graph_text::push_count;
+use journal_text::push_count;
 use std::alloc::Global;
 
 /// Answers in order, those that are equal to the one before only counted.

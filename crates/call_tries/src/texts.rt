@@ -1,9 +1,9 @@
 //! The texts of calls, replies and refusals.
 use crate::read_calls::read_call;
 use crate::read_replies::{read_refusal, read_reply};
-use call_text::{push_ask, push_refusal, push_reply, push_starved};
 use catalogue::Reply;
-use column_types::{NoMemory, Text};
+use column_types::{List, NoMemory, Text};
+use journal_text::{push_ask, push_refusal, push_reply, push_starved};
 use std::alloc::Global;
 
 /// The texts of calls, one behind another, each on a line of its own.
@@ -33,9 +33,18 @@ fn push_part_reply(lines: &mut Text, alloc: Global, part: &str) -> Result<(), No
         return push_starved(lines);
     }
     match read_reply(alloc, part)? {
-        Some(reply) => push_reply(lines, &reply),
+        Some(reply) => push_reply(lines, &reply, actor_names(alloc)?.as_slice()),
         None => lines.push("no reply\n"),
     }
+}
+
+/// The names of the first three actors.
+fn actor_names(alloc: Global) -> Result<List<Text>, NoMemory> {
+    let mut names = List::new(alloc);
+    for name in "alice bob carol".split(' ') {
+        names.push(Text::from_str(alloc, name)?)?;
+    }
+    Ok(names)
 }
 
 /// The lines of refusals, one behind another.
@@ -59,11 +68,12 @@ fn in_one_line(alloc: Global, text: &str) -> Result<Text, NoMemory> {
     Ok(line)
 }
 
-/// Appends the line of a reply without the spaces before it and the line feed behind it.
+/// Appends the lines of a reply in one, without the spaces before them and the line feed behind them.
 pub fn push_bare_reply(text: &mut Text, alloc: Global, reply: &Reply) -> Result<(), NoMemory> {
     let mut line = Text::new(alloc);
-    push_reply(&mut line, reply)?;
-    text.push(line.as_str().trim())
+    push_reply(&mut line, reply, actor_names(alloc)?.as_slice())?;
+    let line = in_one_line(alloc, line.as_str().trim())?;
+    text.push(line.as_str())
 }
 
 /// Appends an answer, behind a bar where it is not the first.

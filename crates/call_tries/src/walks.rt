@@ -1,7 +1,7 @@
 //! The records of several actors in one order.
 use actor_records::{Did, Record, walk_records};
 use column_types::{List, NoMemory, Text};
-use graph_text::push_count;
+use journal_text::push_count;
 use std::alloc::Global;
 use turn_hall::Entry;
 

@@ -22,7 +22,7 @@ use algo_paths::{PathFault, least_weights};
 use algo_reach::{components, hops};
 use column_types::{NoMemory, Text};
 use graph_snap::{Snapshot, VertexAt};
-use graph_text::push_count;
+use journal_text::push_count;
 use par_rounds::round;
 use std::alloc::Global;
 use std::thread::Threads;

@@ -16,7 +16,7 @@ use csr_rows::Rows;
 use graph_model::{Change, Graph, Schema};
 use graph_slots::{SlotName, slot_names, touches};
 use graph_snap::Snapshot;
-use graph_text::{graph_text, push_count, push_number};
+use journal_text::{graph_text, push_count, push_number};
 use std::alloc::Global;
 use std::sync::ledger::Ledger;
 use std::thread::Threads;

@@ -11,7 +11,7 @@ use column_types::{Column, NoMemory, Shared, Steps, Text};
 use graph_columns::{GraphParts, TableIndex, all_parts};
 use graph_model::Graph;
 use graph_slots::{Part, SlotName, slot_names};
-use graph_text::push_count;
+use journal_text::push_count;
 use std::alloc::Global;
 use std::sync::ledger::Ledger;
 use std::thread::Threads;

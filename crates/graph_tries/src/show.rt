@@ -1,6 +1,6 @@
 //! Texts of answers.
 use column_types::{Cell, Kind, NoMemory, Text, value_text};
-use graph_text::{push_count, push_number};
+use journal_text::{push_count, push_number};
 use std::alloc::Global;
 
 /// What stands before the first mark, and what stands after it.

@@ -24,7 +24,7 @@ use column_types::{List, NoMemory, Steps, Text};
 use graph_model::{Graph, Prop};
 use graph_slots::Part;
 use graph_snap::{Built, Derived, EdgeAt, Snapshot, VertexAt};
-use graph_text::{graph_text, push_count, push_number};
+use journal_text::{graph_text, push_count, push_number};
 use std::alloc::Global;
 use std::sync::ledger::Ledger;
 use std::thread::Threads;

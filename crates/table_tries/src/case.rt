@@ -1,6 +1,6 @@
 //! Lines of cases: what short forms stand for, in a case and in its answer.
 use column_types::{List, NoMemory, Text};
-use graph_text::push_count;
+use journal_text::push_count;
 use std::alloc::Global;
 
 /// The most equal characters that stand in an answer as they are.

@@ -3,7 +3,7 @@ ghost use Rattle.std.specs.Prelude.{◌≡◌, ◌<◌};
 
 use crate::values::{cell_of, kind_of, push_cell, word_of};
 use column_types::{Column, ColumnBuilder, Kind, NoMemory, Steps, Text, Value, copy_value};
-use graph_text::push_count;
+use journal_text::push_count;
 use std::alloc::Global;
 use std::marker::Brand;
 use std::sync::ledger::{Blank, Ledger};

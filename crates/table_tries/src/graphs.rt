@@ -7,7 +7,7 @@ use column_types::{List, NoMemory, Steps, Text};
 use graph_config::{Config, ConfigFault, read_config};
 use graph_model::Graph;
 use graph_snap::Snapshot;
-use graph_text::{graph_text, push_count};
+use journal_text::{graph_text, push_count};
 use std::alloc::Global;
 use std::marker::Brand;
 use std::sync::ledger::{Blank, Ledger};

@@ -1,6 +1,6 @@
 //! Cases of lists, of values that many hold, and of maps whose keys are texts.
 use column_types::{List, NoMemory, Shared, Text};
-use graph_text::push_count;
+use journal_text::push_count;
 use std::alloc::Global;
 use std::collections::{BTreeMap, HashMap};
 

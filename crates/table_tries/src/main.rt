@@ -15,6 +15,7 @@
 //! | `schema TABLES\|TABLES` | the schema of vertex tables and edge tables, or their first fault |
 //! | `config JSON` | the tables that a configuration names, with their files, or its first fault |
 //! | `tables CONFIG\|FILE..` | the text of the snapshot of the graph of table files, or the first fault |
+//! | `changes TABLES\|TABLES\|ROWS` | the changes that rows write, for graphs of these tables, or the first row with a fault |
 //! | `inline LINES` | the text of the snapshot of the graph of `v KEY` and `e KEY SOURCE DESTINATION`, or the first fault |
 //!
 //! A KIND is a word of a configuration, such as `local_date`. A VALUE is `null` or a kind and a value, where a day is told by
@@ -28,6 +29,7 @@
 #![tactic(auto)]
 
 mod case;
+mod changes;
 mod column;
 mod graphs;
 mod lists;
@@ -76,6 +78,7 @@ fn told<R: Threads + Sync>(rt: &R, alloc: Global, case: &str) -> Result<Text, No
         "config" => graphs::config(alloc, rest),
         "tables" => graphs::tables(rt, alloc, rest),
         "inline" => graphs::inline(rt, alloc, rest),
+        "changes" => changes::changes(alloc, rest),
         _ => Text::from_str(alloc, "no such word"),
     }
 }

@@ -4,7 +4,7 @@ use column_types::{List, NoMemory, Text};
 use graph_schema::{
     EdgeTable, Keys, Prop, Schema, SchemaFault, VertexTable, all_named, ends_exist, is_name,
 };
-use graph_text::push_count;
+use journal_text::push_count;
 use std::alloc::Global;
 
 /// `name TEXT`.
@@ -20,6 +20,22 @@ pub fn schema(alloc: Global, rest: &str) -> Result<Text, NoMemory> {
         vertex_tables(alloc, vertices)?,
         edge_tables(alloc, edges)?,
     )
+}
+
+/// The schema of vertex tables and edge tables, none where they have a fault.
+pub fn schema_of(alloc: Global, vertices: &str, edges: &str) -> Result<Option<Schema>, NoMemory> {
+    let vertices = vertex_tables(alloc, vertices)?;
+    let edges = edge_tables(alloc, edges)?;
+    if !all_named(vertices.as_slice(), edges.as_slice())
+        || !ends_exist(vertices.as_slice(), edges.as_slice())
+    {
+        return Ok(None);
+    }
+    match Schema::new(alloc, Keys::Whole, vertices, edges) {
+        Ok(schema) => Ok(Some(schema)),
+        Err(SchemaFault::NoMemory) => Err(NoMemory),
+        Err(SchemaFault::At { .. }) => Ok(None),
+    }
 }
 
 /// The schema of tables, or their first fault.

@@ -2,7 +2,7 @@
 use column_types::{
     Cell, FieldFault, Kind, List, NoMemory, Text, compare_values, parse_value, value_text,
 };
-use graph_text::push_number;
+use journal_text::push_number;
 use std::alloc::Global;
 use std::cmp::Ordering;
 
