@@ -3,8 +3,7 @@
 LIMIT = 16_777_216
 
 LATER = (
-    "lines transpose undirect simplify sortdeg build snapshot publish unpublish get checkout refresh tick feed change discard "
-    "hops components cores weights drop query"
+    "transpose undirect simplify sortdeg build snapshot refresh tick feed change discard hops components cores weights drop query"
 ).split()
 
 # What may stand in a place of a script: the first words of lines, and how the place is told.
@@ -14,7 +13,8 @@ ALLOWED = {
     "edges": (("e", "end"), "inside an inline source, after its first 'e' line"),
     "phase": (("actor", "phase"), "right after 'phase'"),
     "actor": (
-        ("open", "close", "columns", "load", "clone", "release", "show", "rows", "actor", "phase"),
+        ("open", "close", "columns", "lines", "load", "clone", "publish", "unpublish", "get", "checkout", "release", "show", "rows",
+         "actor", "phase"),
         "among the commands of an actor",
     ),
 }
@@ -30,11 +30,28 @@ FORMS = {
     "open": "open",
     "close": "close",
     "columns": "columns",
+    "lines": "lines",
     "load": "load G from S",
     "clone": "clone G from H",
+    "publish": "publish G as L keep K threshold T",
+    "unpublish": "unpublish L",
+    "get": "get G from L",
+    "checkout": "checkout G at SID, or checkout G at latest",
     "release": "release G",
     "show": "show S",
     "rows": "rows G",
+}
+
+# The numbers of a line that are no keys: the place of the word, what it is, the greatest that it may be, and what is said of it.
+# The least is 1.
+COUNTS = {
+    "publish": (
+        (5, "number of snapshots", 64, "A published graph keeps 1 to 64 snapshots."),
+        (7, "threshold", 2 ** 63 - 1, "A threshold is a number from 1 to 9223372036854775807."),
+    ),
+    "checkout": (
+        (3, "id of a snapshot", 2 ** 63 - 1, "The id of a snapshot is a number from 1 to 9223372036854775807; 'latest' stands for the last."),
+    ),
 }
 
 

@@ -141,19 +141,30 @@ def explain_words(fault, it):
     comment = next((place for place, (word, _, _) in enumerate(fault.words) if word.startswith(b"#")), None)
     if comment is not None:
         fault.mark_word(it, comment).note("A comment, which begins with '#', stands on a line of its own.")
-    elif len(forms) > 1 and fault.word(2) not in ("inline", "config"):
+    elif fault.first == "source" and fault.word(2) not in ("inline", "config"):
         place = min(2, count - 1)
         fault.mark_word(it, place).note("The third word is 'inline' or 'config'.")
     elif fault.first == "source" and fault.word(4) == "changes":
         fault.mark_word(it, 4).note("Files of changes are part of the language, but not built yet.")
     elif count > len(form):
         fault.mark_word(it, len(form)).note("The line ends before this word.")
-    elif len(form) > 2 and form[2].islower() and fault.word(2) != form[2] and count == len(form) - 1:
-        it.mark(fault.line, fault.words[2][1], fault.words[2][1]).note(f"The word '{form[2]}' is missing here.")
-    elif len(form) > 2 and form[2].islower() and fault.word(2) not in ("", form[2]):
-        fault.mark_word(it, 2).note(f"The third word is '{form[2]}'.")
     else:
+        explain_fixed_word(fault, it, form)
+
+
+PLACES = {2: "third", 4: "fifth", 6: "seventh"}
+
+
+def explain_fixed_word(fault, it, form):
+    """Marks the first fixed word of a form that is missing or another one, or the end of a line that is too short."""
+    count = len(fault.words)
+    place = next((at for at in range(2, min(count, len(form))) if form[at].islower() and fault.word(at) != form[at]), None)
+    if place is None:
         it.mark(fault.line, len(fault.line), len(fault.line)).note(f"A word is missing: {form[count]}.")
+    elif count == len(form) - 1:
+        it.mark(fault.line, fault.words[place][1], fault.words[place][1]).note(f"The word '{form[place]}' is missing here.")
+    else:
+        fault.mark_word(it, place).note(f"The {PLACES[place]} word is '{form[place]}'.")
 
 
 def explain_name(fault):
@@ -188,10 +199,30 @@ def bad_character(word, marks):
 
 
 def explain_number(fault):
+    if fault.first in lines.COUNTS:
+        return explain_count(fault)
     place = next(place for place in range(1, len(fault.words)) if bad_number(fault.word(place)))
     word = fault.word(place)
     it = fault.mark_word(fault.explain(f"{quoted(word)} is no key"), place)
     return it.note(bad_number(word)).note("A key is a whole number from -9223372036854775808 to 9223372036854775807.")
+
+
+def explain_count(fault):
+    place, what, most, limits = next(it for it in lines.COUNTS[fault.first] if bad_count(fault.word(it[0]), it[2]))
+    word = fault.word(place)
+    it = fault.mark_word(fault.explain(f"{quoted(word)} is no {what}"), place)
+    return it.note(bad_count(word, most)).note(limits)
+
+
+def bad_count(word, most):
+    """Returns why a word is no number from 1 to the greatest, or None where it is one."""
+    if word[:1] in ("+", "-"):
+        return f"It begins with '{word[0]}': leave the sign out."
+    if not (word.isascii() and word.isdigit()):
+        return "It has other characters than digits."
+    if word[0] == "0" and len(word) > 1:
+        return "It begins with a zero: leave it out."
+    return None if 1 <= int(word) <= most else ("It is too small." if int(word) < 1 else "It is too great.")
 
 
 def bad_number(word):
