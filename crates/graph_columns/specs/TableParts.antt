@@ -1,10 +1,10 @@
 -- The parts that the columns of a table give.
 use Rattle.std.specs.Prelude.{◌≡◌, ◌<◌, ◌+◌, ◌∷◌, ℕ, pos, negsuc, ℤ, List, All, length, map, sum_by, position}
-use Rattle.std.specs.HashMap.{get}
 use Rattle.std.specs.Ordering.{int_eq}
 use Rattle.column_types.specs.declared.kind.Kind.TheVariants as kind
 use Rattle.column_types.specs.declared.value.Value.TheVariants.{Integer}
 use Rattle.column_types.specs.Column.{ColumnData}
+use Rattle.key_places.specs.Places.{place_of}
 use Rattle.graph_model.specs.declared.columns.VertexColumns.{VertexColumns}
 use Rattle.graph_model.specs.declared.columns.EdgeColumns.{EdgeColumns}
 use Rattle.graph_slots.specs.declared.part.Part.{Part}
@@ -52,7 +52,7 @@ edge_steps c = length c.keys + (length c.sources + length c.destinations) + (len
 -- what the columns of a vertex table keep
 pub record IsVertexTable (c : VertexColumns) : Type 0 where
   pub few : length c.keys < 4294967296
-  pub places : (k : ℤ) → get int_eq c.places k ≡ position (λ q. int_eq q k) c.keys
+  pub places : (k : ℤ) → place_of c.places k ≡ position (λ q. int_eq q k) c.keys
 
 -- what the columns of an edge table keep
 pub record IsEdgeTable (c : EdgeColumns) : Type 0 where
@@ -61,4 +61,4 @@ pub record IsEdgeTable (c : EdgeColumns) : Type 0 where
   pub few_destinations : length c.destinations < 4294967295
   pub sources : ArePlaces c.sources
   pub destinations : ArePlaces c.destinations
-  pub places : (k : ℤ) → get int_eq c.places k ≡ position (λ q. int_eq q k) c.keys
+  pub places : (k : ℤ) → place_of c.places k ≡ position (λ q. int_eq q k) c.keys

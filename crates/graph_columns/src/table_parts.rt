@@ -1,8 +1,8 @@
 //! The parts of whole tables. Their columns are moved.
 ghost use Rattle.std.specs.Prelude.{◌≡◌, ◌<◌, ◌≤◌, ◌+◌, ◌∷◌, [], ◌++◌, ℤ, All, OnOk, length, map, position, sum_by};
 ghost use Rattle.std.specs.List.{flat_map};
-ghost use Rattle.std.specs.HashMap.{get};
 ghost use Rattle.std.specs.Ordering.{int_eq};
+ghost use Rattle.key_places.specs.Places.{place_of};
 ghost use Rattle.graph_slots.specs.Meaning.{edge_rows};
 ghost use Rattle.graph_slots.specs.declared.part.Part.TheVariants.{Cells as CellsOf};
 ghost use Rattle.graph_columns.specs.Keys.{keys_of, IsKeyColumn};
@@ -13,8 +13,8 @@ use crate::parts::{place_part, prop_part, row_part};
 use column_types::{Column, EditableColumn, List, NoMemory, Shared, Steps};
 use graph_model::{EdgeColumns, VertexColumns};
 use graph_slots::Part;
+use key_places::KeyPlaces;
 use std::alloc::Global;
-use std::collections::HashMap;
 use std::sync::ledger::Ledger;
 
 /// Appends a part for each property of a table, with a step for each value.
@@ -39,11 +39,11 @@ fn push_props<L: Ledger>(
 fn push_index(
     alloc: Global,
     column: Shared<Column>,
-    places: HashMap<i64, u32>,
+    places: KeyPlaces,
     indexes: &mut List<Shared<TableIndex>>,
 ) -> Result<(), NoMemory>
     requires keys { IsKeyColumn column }
-    requires places { (k : ℤ) → get int_eq places k ≡ position (λ q. int_eq q k) (keys_of column) }
+    requires places { (k : ℤ) → place_of places k ≡ position (λ q. int_eq q k) (keys_of column) }
     ensures { OnOk result (indexes.new ≡ indexes.old ++ keys_of column ∷ []) }
 {
     let index = TableIndex::of_places(column, places);

@@ -1,7 +1,6 @@
 -- How seats follow the keys, columns and flags in which they lie.
 use Rattle.std.proofs.Common.{◌≡◌, ◌≢◌, ℕ, ℤ, pos, zero, suc, ◌+◌, ◌-◌, ◌*◌, ◌<◌, ◌≤◌, Bool, true, false, not, List, [], ◌∷◌, ◌++◌, Some, None, length, get_or, set, slice_get, replicate, refl, ap, sym, ◌∙◌, subst, arith, map, take, All, cond, ◌==◌}
 use Rattle.std.specs.List.{AllZip, list_any, range_with_len, sum_by}
-use Rattle.std.specs.HashMap.{HashMap, get, Updates}
 use Rattle.std.specs.Ordering.{int_eq}
 use Rattle.std.specs.Prelude.{IsTrue}
 use Rattle.std.proofs.lemmas.Bool.Decides.{nat_tests}
@@ -14,8 +13,10 @@ use Rattle.column_types.specs.declared.value.Value.{Value}
 use Rattle.column_types.specs.declared.value.Value.TheVariants.{Null}
 use Rattle.column_types.specs.Value.{fits_kind}
 use Rattle.column_types.specs.Column.{ColumnData}
+use Rattle.key_places.specs.declared.index.KeyPlaces.{KeyPlaces}
+use Rattle.key_places.specs.Places.{Puts, place_of}
 use Rattle.graph_schema.specs.declared.schema.Prop.{Prop}
-use Rattle.graph_model.specs.Seats.{Seat, TableData, AreColumns, AreTold, IsTable, is_live, sits, sits_at, seat_key, live_seats, no_column, KeepsBelow, HasRow, PutsAt, Fit, column_at, row_of, kinds_of, flag_at, flagged, seat_from, seats_from, seated, vacated, reset, left, with_value, no_seat}
+use Rattle.graph_model.specs.Seats.{Seat, TableData, AreColumns, AreTold, IsTable, is_live, sits, sits_at, seat_key, live_seats, no_column, KeepsBelow, HasRow, PutsAt, Fit, column_at, row_of, kinds_of, flag_at, flagged, with_flag, seat_from, seats_from, seated, vacated, reset, left, with_value, no_seat}
 use Rattle.graph_model.proofs.Rows.{got}
 use Rattle.graph_model.proofs.Told.{told_push, told_vacate, told_reset, sits_within}
 
@@ -245,15 +246,15 @@ cells_are keys cs dead =
     (All-filter is_live (λ s. length s.values ≡ length cs) (seats_from keys cs dead)
     (All-map (λ (s : Seat). length s.values ≡ length cs) (seat_from keys cs dead) (range_with_len 0 (length keys)) (λ i d h. length-map cs (λ (c : ColumnData). get_or c.values (get_or (range_with_len 0 (length keys)) i d) Null))))
 
-module _ {S : Type 0} (keys : List ℤ) (cs ds : List ColumnData) (dead : List Bool) where
-  pub kept_is_table : (index : HashMap ℤ ℕ S) (live : ℕ) → IsTable keys cs dead index live → AllZip (KeepsBelow (length keys)) cs ds → IsTable keys ds dead index live
+module _ (keys : List ℤ) (cs ds : List ColumnData) (dead : List Bool) where
+  pub kept_is_table : (index : KeyPlaces) (live : ℕ) → IsTable keys cs dead index live → AllZip (KeepsBelow (length keys)) cs ds → IsTable keys ds dead index live
   kept_is_table index live is kept = record {
     laid = record { few = is.laid.few; long = long_kept (length keys) cs ds kept; flags = is.laid.flags };
     told = subst (λ s. AreTold s index live) (sym (seats_kept keys cs ds dead kept)) is.told;
   }
 
   -- the same where an index tells the same by other means
-  pub same_is_table : (old new : HashMap ℤ ℕ S) (live : ℕ) → IsTable keys cs dead old live → AllZip (KeepsBelow (length keys)) cs ds → ((k : ℤ) → get int_eq new k ≡ get int_eq old k) → IsTable keys ds dead new live
+  pub same_is_table : (old new : KeyPlaces) (live : ℕ) → IsTable keys cs dead old live → AllZip (KeepsBelow (length keys)) cs ds → ((k : ℤ) → place_of new k ≡ place_of old k) → IsTable keys ds dead new live
   same_is_table old new live is kept same =
       let told = subst (λ s. AreTold s old live) (sym (seats_kept keys cs ds dead kept)) is.told in
       record {
@@ -261,7 +262,7 @@ module _ {S : Type 0} (keys : List ℤ) (cs ds : List ColumnData) (dead : List B
         told = record { once = told.once; indexed = λ k. same k ∙ told.indexed k; count = told.count };
       }
 
-  pub push_is_table : (old new : HashMap ℤ ℕ S) (live : ℕ) (k : ℤ) (vs : List Value) → length keys < 2147483647 → IsTable keys cs dead old live → AllZip (KeepsBelow (length keys)) cs ds → HasRow (length keys) ds vs → list_any (sits k) (seats_from keys cs dead) ≡ false → Updates int_eq old new k (Some (length keys)) → IsTable (keys ++ k ∷ []) ds dead new (live + 1)
+  pub push_is_table : (old new : KeyPlaces) (live : ℕ) (k : ℤ) (vs : List Value) → length keys < 2147483647 → IsTable keys cs dead old live → AllZip (KeepsBelow (length keys)) cs ds → HasRow (length keys) ds vs → list_any (sits k) (seats_from keys cs dead) ≡ false → Puts old new k (Some (length keys)) → IsTable (keys ++ k ∷ []) ds dead new (live + 1)
   push_is_table old new live k vs room is kept put absent updates =
       let long : All (λ c. length keys + 1 ≤ length c.values) ds = long_put (length keys) ds vs put in
       let more = length_push keys k in
@@ -272,10 +273,27 @@ module _ {S : Type 0} (keys : List ℤ) (cs ds : List ColumnData) (dead : List B
           flags = omega (arith, is.laid.flags);
         };
         told = subst (λ s. AreTold s new (live + 1)) (sym (seats_push keys cs ds dead k vs is.laid.flags kept put))
-            (told_push (seats_from keys cs dead) old new live k vs is.told (subst (λ n. Updates int_eq old new k (Some n)) (sym (length_seats keys cs dead)) updates) absent);
+            (told_push (seats_from keys cs dead) old new live k vs is.told (subst (λ n. Puts old new k (Some n)) (sym (length_seats keys cs dead)) updates) absent);
       }
 
-pub vacate_is_table : {S : Type 0} (keys : List ℤ) (cs : List ColumnData) (dead : List Bool) (old new : HashMap ℤ ℕ S) (live i : ℕ) → IsTable keys cs dead old live → sits_at (seats_from keys cs dead) i ≡ true → Updates int_eq old new (get_or keys i (pos 0)) None → IsTable keys cs (flagged dead i) new (live - 1)
+-- flags that are made and not set change no row
+pub seats_unflagged : (keys : List ℤ) (cs : List ColumnData) (dead : List Bool) (i : ℕ) → seats_from keys cs (with_flag dead i) ≡ seats_from keys cs dead
+seats_unflagged keys cs dead i =
+    range_same (length keys) (seat_from keys cs (with_flag dead i)) (seat_from keys cs dead)
+    (λ j below. ap (λ b. record { key = get_or keys j (pos 0); values = row_of cs j; live = not b }) (flag_past dead (i + 1 - length dead) j))
+
+pub unflagged_is_table : (keys : List ℤ) (cs : List ColumnData) (dead : List Bool) (old new : KeyPlaces) (live i : ℕ) → i < length keys → IsTable keys cs dead old live → ((k : ℤ) → place_of new k ≡ place_of old k) → IsTable keys cs (with_flag dead i) new live
+unflagged_is_table keys cs dead old new live i within is same = record {
+  laid = record {
+    few = is.laid.few;
+    long = is.laid.long;
+    flags = omega (arith, is.laid.flags, length-append dead (replicate (i + 1 - length dead) false), length-replicate (i + 1 - length dead) false);
+  };
+  told = subst (λ s. AreTold s new live) (sym (seats_unflagged keys cs dead i))
+      (record { once = is.told.once; indexed = λ k. same k ∙ is.told.indexed k; count = is.told.count });
+}
+
+pub vacate_is_table : (keys : List ℤ) (cs : List ColumnData) (dead : List Bool) (old new : KeyPlaces) (live i : ℕ) → IsTable keys cs dead old live → sits_at (seats_from keys cs dead) i ≡ true → Puts old new (get_or keys i (pos 0)) None → IsTable keys cs (flagged dead i) new (live - 1)
 vacate_is_table keys cs dead old new live i is there updates =
     let within : i < length keys = omega (arith, sits_within (seats_from keys cs dead) i there, length_seats keys cs dead) in
     let key = ap seat_key (sym (seat_at keys cs dead i no_seat within)) in
@@ -286,10 +304,10 @@ vacate_is_table keys cs dead old new live i is there updates =
         flags = omega (arith, is.laid.flags, length-set (dead ++ replicate (i + 1 - length dead) false) i true, length-append dead (replicate (i + 1 - length dead) false), length-replicate (i + 1 - length dead) false);
       };
       told = subst (λ s. AreTold s new (live - 1)) (sym (seats_vacate keys cs dead i within))
-          (told_vacate (seats_from keys cs dead) old new live i there is.told (subst (λ k. Updates int_eq old new k None) key updates));
+          (told_vacate (seats_from keys cs dead) old new live i there is.told (subst (λ k. Puts old new k None) key updates));
     }
 
-pub reset_is_table : {S : Type 0} (keys : List ℤ) (cs : List ColumnData) (dead : List Bool) (index : HashMap ℤ ℕ S) (live i p : ℕ) (c : ColumnData) (v : Value) → i < length keys → p < length cs → c.values ≡ set (get_or cs p c).values i v → IsTable keys cs dead index live → IsTable keys (set cs p c) dead index live
+pub reset_is_table : (keys : List ℤ) (cs : List ColumnData) (dead : List Bool) (index : KeyPlaces) (live i p : ℕ) (c : ColumnData) (v : Value) → i < length keys → p < length cs → c.values ≡ set (get_or cs p c).values i v → IsTable keys cs dead index live → IsTable keys (set cs p c) dead index live
 reset_is_table keys cs dead index live i p c v within column is_set is =
     let inside = is.laid.long p c column in
     record {

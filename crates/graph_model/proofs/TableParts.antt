@@ -2,8 +2,6 @@
 use Rattle.std.proofs.Common.{◌≡◌, ℕ, ℤ, pos, zero, suc, ◌+◌, ◌<◌, ◌≤◌, Bool, true, false, ◌||◌, ◌&&◌, not, List, [], ◌∷◌, ◌++◌, Option, Some, None, length, get_or, take, refl, ap, sym, ◌∙◌, subst, arith, cond, map, filter, count_by, ◌==◌}
 use Rattle.std.specs.List.{list_any, list_all, position, range_with_len}
 use Rattle.std.specs.Ordering.{int_eq}
-use Rattle.std.specs.HashMap.{HashMap, get, Updates}
-use Rattle.std.specs.Map.{lookup}
 use Rattle.std.proofs.lemmas.Bool.Decides.{nat_tests, Decides-int_eq}
 use Rattle.std.proofs.lemmas.List.{map-append, length-map, same_lists, get_or-map, take_more, length_push, length-take}
 use Rattle.std.proofs.lemmas.List.FromFn.{length-range_with_len, map-range_with_len_more, length-map-range_with_len, get_or-map-range_with_len}
@@ -12,6 +10,8 @@ use Rattle.std.proofs.lemmas.List.Sums.{length-filter, count_by-le-length, count
 use Rattle.column_types.specs.declared.kind.Kind.TheVariants as kind
 use Rattle.column_types.specs.declared.value.Value.TheVariants.{Null}
 use Rattle.column_types.specs.Column.{ColumnData}
+use Rattle.key_places.specs.declared.index.KeyPlaces.{KeyPlaces}
+use Rattle.key_places.specs.Places.{Puts, place_of}
 use Rattle.graph_model.specs.Columns.{value_at}
 use Rattle.graph_model.specs.Seats.{Seat, TableData, is_live, live_seats, sits, seat_key, row_of, flag_at, seat_from, seats_from, kinds_of, no_column, column_at, IsTable}
 use Rattle.graph_model.specs.Parts.{is_kept, kept_places, keys_of, values_of, column_of, part_column, TellsPlaces, ArePartsOf}
@@ -88,18 +88,18 @@ index_by keys k key o true e new is = sym (position_last (int_eq k) keys key (ne
 index_by keys k key o false e new is = is ∙ sym (position_push (int_eq k) keys key (eq_turned key k false e))
 
 -- a key more
-pub index_more : {S : Type 0} (keys : List ℤ) (place : ℕ) (d : ℤ) (old new : HashMap ℤ ℕ S) → place < length keys → ((k : ℤ) → count_by (int_eq k) keys ≤ 1) → TellsPlaces (take place keys) old → Updates int_eq old new (get_or keys place d) (Some place) → TellsPlaces (take (place + 1) keys) new
+pub index_more : (keys : List ℤ) (place : ℕ) (d : ℤ) (old new : KeyPlaces) → place < length keys → ((k : ℤ) → count_by (int_eq k) keys ≤ 1) → TellsPlaces (take place keys) old → Puts old new (get_or keys place d) (Some place) → TellsPlaces (take (place + 1) keys) new
 index_more keys place d old new within once told updates k =
     let key = get_or keys place d in
     let long : length (take place keys) ≡ place = omega (arith, length-take place keys) in
-    updates.0 k
-    ∙ ap (λ n. cond (int_eq key k) (Some n) (get int_eq old k)) (sym long)
-    ∙ index_by (take place keys) k key (get int_eq old k) (int_eq key k) refl
+    updates k
+    ∙ ap (λ n. cond (int_eq key k) (Some n) (place_of old k)) (sym long)
+    ∙ index_by (take place keys) k key (place_of old k) (int_eq key k) refl
     (λ e. none_counted (int_eq k) (take place keys) (omega (arith, once k, count_take (int_eq k) keys (place + 1), count_by_more_yes (int_eq k) keys place d within (eq_turned key k true e)))) (told k)
     ∙ ap (position (int_eq k)) (sym (take_more keys place d within))
 
-pub index_nothing : {S : Type 0} (index : HashMap ℤ ℕ S) → index.entries ≡ [] → TellsPlaces [] index
-index_nothing index none k = ap (lookup (int_eq k)) none
+pub index_nothing : (index : KeyPlaces) → ((k : ℤ) → place_of index k ≡ None) → TellsPlaces [] index
+index_nothing index none k = none k
 
 -- ---- a value that fits
 

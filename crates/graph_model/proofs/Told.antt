@@ -1,12 +1,12 @@
 -- What an index tells of seats stays right where a row comes, leaves or has a value set.
 use Rattle.std.proofs.Common.{◌≡◌, ℕ, ℤ, zero, suc, ◌+◌, ◌-◌, ◌<◌, ◌≤◌, Bool, true, false, ◌||◌, ◌&&◌, not, List, [], ◌∷◌, ◌++◌, Option, Some, None, length, get_or, set, refl, ap, sym, ◌∙◌, subst, arith, cond, map, count_by, filter}
 use Rattle.std.specs.List.{list_any, position, sum_by}
-use Rattle.std.specs.HashMap.{HashMap, get, Updates}
-use Rattle.std.specs.Map.{lookup}
 use Rattle.std.specs.Ordering.{int_eq}
 use Rattle.std.proofs.lemmas.Bool.Decides.{nat_tests, Decides-int_eq}
 use Rattle.std.proofs.lemmas.List.Sums.{sum_by-set, sum_by_push, length-filter, get_or-le-sum_by}
 use Rattle.column_types.specs.declared.value.Value.{Value}
+use Rattle.key_places.specs.declared.index.KeyPlaces.{KeyPlaces}
+use Rattle.key_places.specs.Places.{Puts, place_of}
 use Rattle.graph_model.specs.Seats.{Seat, AreTold, is_live, sits, sits_at, key_at, no_seat, live_seats, seated, vacated, left, reset, with_value}
 use Rattle.graph_model.proofs.Rows.{count_none, counts_none, counts_one, one_at_least}
 use Rattle.graph_model.proofs.Positions.{position_last, position_push, position_set_same, position_gone}
@@ -35,10 +35,10 @@ sits_within (s ∷ seats) (suc i) e = omega (arith, sits_within seats i e)
 
 -- ---- no rows
 
-pub told_nothing : {S : Type 0} (index : HashMap ℤ ℕ S) → index.entries ≡ [] → AreTold [] index 0
+pub told_nothing : (index : KeyPlaces) → ((k : ℤ) → place_of index k ≡ None) → AreTold [] index 0
 told_nothing index none = record {
   once = λ k. omega arith;
-  indexed = λ k. ap (lookup (int_eq k)) none;
+  indexed = none;
   count = refl;
 }
 
@@ -52,18 +52,18 @@ place_by seats k vs q true o e new is =
     sym (position_last (sits q) seats (record { key = k; values = vs; live = true }) (subst (λ z. list_any (sits z) seats ≡ false) ((Decides-int_eq k q).0 e) new) e)
 place_by seats k vs q false o e new is = is ∙ sym (position_push (sits q) seats (record { key = k; values = vs; live = true }) e)
 
-pub told_push : {S : Type 0} (seats : List Seat) (old new : HashMap ℤ ℕ S) (live : ℕ) (k : ℤ) (vs : List Value) → AreTold seats old live → Updates int_eq old new k (Some (length seats)) → list_any (sits k) seats ≡ false → AreTold (seated seats k vs) new (live + 1)
+pub told_push : (seats : List Seat) (old new : KeyPlaces) (live : ℕ) (k : ℤ) (vs : List Value) → AreTold seats old live → Puts old new k (Some (length seats)) → list_any (sits k) seats ≡ false → AreTold (seated seats k vs) new (live + 1)
 told_push seats old new live k vs told updates absent =
     let row : Seat = record { key = k; values = vs; live = true } in
     record {
       once = λ q. once_push (sits q) seats row (told.once q) (λ e. subst (λ z. list_any (sits z) seats ≡ false) ((Decides-int_eq k q).0 e) absent);
-      indexed = λ q. updates.0 q ∙ place_by seats k vs q (int_eq k q) (get int_eq old q) refl absent (told.indexed q);
+      indexed = λ q. updates q ∙ place_by seats k vs q (int_eq k q) (place_of old q) refl absent (told.indexed q);
       count = omega (arith, told.count, length-filter is_live (seated seats k vs), length-filter is_live seats, sum_by_push (λ s. cond {A = ℕ} (is_live s) 1 0) seats row);
     }
 
 -- ---- a value set
 
-pub told_reset : {S : Type 0} (seats : List Seat) (index : HashMap ℤ ℕ S) (live i p : ℕ) (v : Value) → i < length seats → AreTold seats index live → AreTold (reset seats i p v) index live
+pub told_reset : (seats : List Seat) (index : KeyPlaces) (live i p : ℕ) (v : Value) → i < length seats → AreTold seats index live → AreTold (reset seats i p v) index live
 told_reset seats index live i p v within told =
     let row : Seat = with_value p v (get_or seats i no_seat) in
     record {
@@ -86,19 +86,19 @@ left_by seats i q true o within there e once is =
 left_by seats i q false o within there e once is =
     is ∙ sym (position_set_same (sits q) seats i (left (get_or seats i no_seat)) no_seat (sym (and_by _ _ false there e)))
 
-pub told_vacate : {S : Type 0} (seats : List Seat) (old new : HashMap ℤ ℕ S) (live i : ℕ) → sits_at seats i ≡ true → AreTold seats old live → Updates int_eq old new (key_at seats i) None → AreTold (vacated seats i) new (live - 1)
+pub told_vacate : (seats : List Seat) (old new : KeyPlaces) (live i : ℕ) → sits_at seats i ≡ true → AreTold seats old live → Puts old new (key_at seats i) None → AreTold (vacated seats i) new (live - 1)
 told_vacate seats old new live i there told updates =
     let within : i < length seats = sits_within seats i there in
     let gone : Seat = left (get_or seats i no_seat) in
     let one = counts_one (is_live (get_or seats i no_seat)) there in
     record {
       once = λ q. omega (arith, told.once q, count_set (sits q) seats i gone no_seat within);
-      indexed = λ q. updates.0 q ∙ left_by seats i q (int_eq (key_at seats i) q) (get int_eq old q) within there refl (told.once q) (told.indexed q);
+      indexed = λ q. updates q ∙ left_by seats i q (int_eq (key_at seats i) q) (place_of old q) within there refl (told.once q) (told.indexed q);
       count = omega (arith, told.count, length-filter is_live (vacated seats i), length-filter is_live seats, count_set is_live seats i gone no_seat within);
     }
 
 -- a number is at least one where a row sits
-pub some_sit : {S : Type 0} (seats : List Seat) (index : HashMap ℤ ℕ S) (live i : ℕ) → sits_at seats i ≡ true → AreTold seats index live → 1 ≤ live
+pub some_sit : (seats : List Seat) (index : KeyPlaces) (live i : ℕ) → sits_at seats i ≡ true → AreTold seats index live → 1 ≤ live
 some_sit seats index live i there told =
     let within : i < length seats = sits_within seats i there in
     let one = counts_one (is_live (get_or seats i no_seat)) there in

@@ -1,9 +1,9 @@
 -- The columns of a graph.
 use Rattle.std.specs.Prelude.{◌≡◌, ℕ, pos, ℤ, List, length, map, Some, slice_get, position}
 use Rattle.std.specs.List.{range_with_len}
-use Rattle.std.specs.HashMap.{get}
 use Rattle.std.specs.Ordering.{int_eq}
 use Rattle.column_types.specs.Column.{ColumnData}
+use Rattle.key_places.specs.Places.{place_of}
 use Rattle.graph_model.specs.Keys.{rows_at}
 use Rattle.graph_model.specs.Graph.{GraphData, vertex_key, edge_key, vertex_props_at, edge_props_at}
 use Rattle.graph_model.specs.Columns.{vertex_prop_kind, edge_prop_kind, vertex_prop_values, edge_prop_values, source_places, destination_places}
@@ -22,7 +22,7 @@ edge_column g t p = record { kind = edge_prop_kind g.schema t p; values = edge_p
 pub record AreVertexColumns (g : GraphData) (t : ℕ) (c : VertexColumns) : Type 0 where
   pub keys : c.keys ≡ map vertex_key (rows_at g.vertices t)
   pub values : c.values ≡ map (vertex_column g t) (range_with_len 0 (length (vertex_props_at g.schema t)))
-  pub places : (k : ℤ) → get int_eq c.places k ≡ position (int_eq k) c.keys
+  pub places : (k : ℤ) → place_of c.places k ≡ position (int_eq k) c.keys
 
 -- the columns of an edge table, and where its keys stand
 pub record AreEdgeColumns (g : GraphData) (t : ℕ) (c : EdgeColumns) : Type 0 where
@@ -30,7 +30,7 @@ pub record AreEdgeColumns (g : GraphData) (t : ℕ) (c : EdgeColumns) : Type 0 w
   pub sources : c.sources ≡ map pos (source_places g t)
   pub destinations : c.destinations ≡ map pos (destination_places g t)
   pub values : c.values ≡ map (edge_column g t) (range_with_len 0 (length (edge_props_at g.schema t)))
-  pub places : (k : ℤ) → get int_eq c.places k ≡ position (int_eq k) c.keys
+  pub places : (k : ℤ) → place_of c.places k ≡ position (int_eq k) c.keys
 
 -- the columns of each table of a graph
 pub record AreColumnsOf (g : GraphData) (c : GraphColumns) : Type 0 where

@@ -1,12 +1,13 @@
 -- A stored table on its way into columns: where the rows are that are still there, and what is taken of them.
 use Rattle.std.specs.Prelude.{◌≡◌, ℕ, ◌<◌, ℤ, pos, Bool, not, filter, map, List, [], length, take, slice_index_or, slice_get, Some, position, IsTrue}
 use Rattle.std.specs.List.{range_with_len, zip}
-use Rattle.std.specs.HashMap.{HashMap, get}
 use Rattle.std.specs.Ordering.{int_eq}
 use Rattle.column_types.specs.declared.kind.Kind.TheVariants as kind
 use Rattle.column_types.specs.declared.value.Value.{Value}
 use Rattle.column_types.specs.declared.value.Value.TheVariants.{Null}
 use Rattle.column_types.specs.Column.{ColumnData}
+use Rattle.key_places.specs.declared.index.KeyPlaces.{KeyPlaces}
+use Rattle.key_places.specs.Places.{place_of}
 use Rattle.graph_schema.specs.declared.schema.EdgeTable.{EdgeTable}
 use Rattle.graph_model.specs.declared.columns.VertexColumns.{VertexColumns}
 use Rattle.graph_model.specs.declared.columns.EdgeColumns.{EdgeColumns}
@@ -41,8 +42,8 @@ column_of places column = record { kind = column.kind; values = values_of column
 -- ---- the parts of a table
 
 -- an index tells of each key its place in a list of keys
-abbrev pub TellsPlaces : {S : Type 0} → List ℤ → HashMap ℤ ℕ S → Type 0
-TellsPlaces keys places = (k : ℤ) → get int_eq places k ≡ position (int_eq k) keys
+abbrev pub TellsPlaces : List ℤ → KeyPlaces → Type 0
+TellsPlaces keys places = (k : ℤ) → place_of places k ≡ position (int_eq k) keys
 
 -- the column of a property of the rows that are still there
 abbrev pub part_column : TableData → ℕ → ColumnData

@@ -1,7 +1,6 @@
 -- How a table is stored: in seats. A seat is where a row was put. It never moves, and it stays when its row is taken out.
 use Rattle.std.specs.Prelude.{◌≡◌, ℕ, ◌+◌, ◌-◌, ◌<◌, ◌≤◌, ℤ, pos, Bool, true, false, ◌&&◌, not, filter, map, List, [], ◌∷◌, ◌++◌, length, slice_index_or, slice_set, slice_get, count_by, position, replicate, All, Some, IsTrue}
 use Rattle.std.specs.List.{AllZip, range_with_len}
-use Rattle.std.specs.HashMap.{HashMap, get}
 use Rattle.std.specs.Ordering.{int_eq}
 use Rattle.column_types.specs.declared.kind.Kind.{Kind}
 use Rattle.column_types.specs.declared.kind.Kind.TheVariants as kind
@@ -9,6 +8,8 @@ use Rattle.column_types.specs.declared.value.Value.{Value}
 use Rattle.column_types.specs.declared.value.Value.TheVariants.{Null}
 use Rattle.column_types.specs.Value.{fits_kind}
 use Rattle.column_types.specs.Column.{ColumnData}
+use Rattle.key_places.specs.declared.index.KeyPlaces.{KeyPlaces}
+use Rattle.key_places.specs.Places.{place_of}
 
 -- the key and values of the row that was put in a seat, and whether it is still there
 pub record Seat : Type 0 where
@@ -98,19 +99,23 @@ pub record AreColumns (keys : List ℤ) (columns : List ColumnData) (dead : List
 
 -- what an index of the rows and a number tell of seats: no key sits twice, the index tells of each key where it sits, and the
 -- number how many rows there are
-pub record AreTold {S : Type 0} (seats : List Seat) (index : HashMap ℤ ℕ S) (live : ℕ) : Type 0 where
+pub record AreTold (seats : List Seat) (index : KeyPlaces) (live : ℕ) : Type 0 where
   pub once : (k : ℤ) → count_by (sits k) seats ≤ 1
-  pub indexed : (k : ℤ) → get int_eq index k ≡ position (sits k) seats
+  pub indexed : (k : ℤ) → place_of index k ≡ position (sits k) seats
   pub count : live ≡ length (live_seats seats)
 
 -- what a stored table keeps
-pub record IsTable {S : Type 0} (keys : List ℤ) (columns : List ColumnData) (dead : List Bool) (index : HashMap ℤ ℕ S) (live : ℕ) : Type 0 where
+pub record IsTable (keys : List ℤ) (columns : List ColumnData) (dead : List Bool) (index : KeyPlaces) (live : ℕ) : Type 0 where
   pub laid : AreColumns keys columns dead
   pub told : AreTold (seats_from keys columns dead) index live
 
--- the flags after that of a place is set; those between are made
+-- flags up to that of a place; those that are made are not set
+abbrev pub with_flag : List Bool → ℕ → List Bool
+with_flag dead i = dead ++ replicate (i + 1 - length dead) false
+
+-- the flags after that of a place is set
 abbrev pub flagged : List Bool → ℕ → List Bool
-flagged dead i = slice_set (dead ++ replicate (i + 1 - length dead) false) i true
+flagged dead i = slice_set (with_flag dead i) i true
 
 -- a column after a value was put at a place, or was not: below it everything stays
 pub record KeepsBelow (place : ℕ) (c d : ColumnData) : Type 0 where

@@ -1,9 +1,9 @@
-//! How a row's values go into the columns of a table, and how a row is flagged.
+//! How a row's values go into the columns of a table, and where its flag goes.
 ghost use Rattle.std.specs.Prelude.{◌≡◌, ◌<◌, ◌≤◌, length, slice_get, slice_index_or, All, Some, IsTrue, IfOk, OnOk, OnErr};
 ghost use Rattle.std.specs.List.{AllZip};
 ghost use Rattle.column_types.specs.declared.value.Value.TheVariants.{Null};
 ghost use Rattle.column_types.specs.Value.{fits_kind};
-ghost use Rattle.graph_model.specs.Seats.{Fit, HasRow, KeepsBelow, PutsAt, column_at, kinds_of, row_of, flagged};
+ghost use Rattle.graph_model.specs.Seats.{Fit, HasRow, KeepsBelow, PutsAt, column_at, kinds_of, row_of, with_flag};
 
 use column_types::{EditableColumn, List, NoMemory, Value, copy_value};
 use std::alloc::Global;
@@ -83,14 +83,12 @@ pub(crate) fn copy_row(
     Ok(values)
 }
 
-/// Sets the flag of a place. After an error all flags are as before.
-pub(crate) fn set_flag(flags: &mut Vec<bool>, place: u32) -> Result<(), NoMemory>
-    ensures ok { OnOk result (flags.new.items ≡ flagged flags.old.items place) }
+/// Makes flags up to that of a place. Those that are new are not set. After an error all flags are as before.
+pub(crate) fn make_flags(flags: &mut Vec<bool>, place: u32) -> Result<(), NoMemory>
+    ensures ok { OnOk result (flags.new.items ≡ with_flag flags.old.items place) }
     ensures err { OnErr result (flags.new.items ≡ flags.old.items) }
 {
-    let place = place as usize;
-    let len = flags.len().max(place + 1);
+    let len = flags.len().max(place as usize + 1);
     flags.resize(len, false)?;
-    flags[place] = true;
     Ok(())
 }

@@ -5,7 +5,7 @@ use column_types::{List, NoMemory, Value};
 use thiserror::Error;
 
 /// A change of a graph. Tables and properties are named by their places from 0, vertices and edges by their keys.
-#[derive(Debug, Drop, PartialEq, Eq)]
+#[derive(Clone, Debug, Drop, PartialEq, Eq)]
 pub enum Change {
     /// Puts a vertex at the end of a table.
     InsertVertex {

@@ -12,8 +12,8 @@ use crate::places::{EdgePlaces, places_of_ends};
 use crate::table::Table;
 use column_types::{EditableColumn, List, NoMemory};
 use graph_schema::Schema;
+use key_places::KeyPlaces;
 use std::alloc::Global;
-use std::collections::HashMap;
 
 /// The columns of a graph, table by table.
 #[derive(Drop)]
@@ -29,7 +29,7 @@ pub struct VertexColumns {
     pub keys: List<i64>,
     pub values: List<EditableColumn>,
     /// For each key the place of its row.
-    pub places: HashMap<i64, u32>,
+    pub places: KeyPlaces,
 }
 
 /// The columns of an edge table.
@@ -42,7 +42,7 @@ pub struct EdgeColumns {
     pub destinations: List<i32>,
     pub values: List<EditableColumn>,
     /// For each key the place of its row.
-    pub places: HashMap<i64, u32>,
+    pub places: KeyPlaces,
 }
 
 /// The columns of a vertex table.

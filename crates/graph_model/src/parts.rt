@@ -7,15 +7,15 @@ ghost use Rattle.graph_model.specs.Seats.{AreColumns, kinds_of, seats_from, sits
 ghost use Rattle.graph_model.specs.Parts.{ArePartsOf, TellsPlaces, is_kept, kept_places, keys_of, values_of, column_of};
 
 use column_types::{EditableColumn, List, NoMemory, copy_value};
+use key_places::KeyPlaces;
 use std::alloc::Global;
-use std::collections::HashMap;
 
 /// The keys of rows, a column for each property, and for each key the place of its row.
 #[derive(Drop)]
 pub(crate) struct TableParts {
     pub(crate) keys: List<i64>,
     pub(crate) columns: List<EditableColumn>,
-    pub(crate) places: HashMap<i64, u32>,
+    pub(crate) places: KeyPlaces,
 }
 
 /// Whether the row at a place is still there.
@@ -111,12 +111,12 @@ fn kept_columns(
 }
 
 /// The place of each key.
-fn places_of(alloc: Global, keys: &[i64]) -> Result<HashMap<i64, u32>, NoMemory>
+fn places_of(alloc: Global, keys: &[i64]) -> Result<KeyPlaces, NoMemory>
     requires few { length keys.now < 4294967296 }
     requires once { (k : ℤ) → count_by (int_eq k) keys.now ≤ 1 }
     ensures { IfOk result (λ places. TellsPlaces keys.now places) }
 {
-    let mut places = HashMap::new(alloc);
+    let mut places = KeyPlaces::new(alloc);
     for place in 0..keys.len() as u32 {
         places.insert(keys[place as usize], place)?;
     }

@@ -1,20 +1,19 @@
 //! A table as it is stored.
 ghost use Rattle.std.specs.Prelude.{◌≡◌, ◌+◌, ◌<◌, ℤ, false, None, IsTrue, IfOk, OnOk, OnErr, [], ◌∷◌, ◌++◌, length, map, position, slice_index_or, sum_by, take};
 ghost use Rattle.std.specs.List.{list_any};
-ghost use Rattle.std.specs.HashMap.{get, Updates, IsUnchanged};
-ghost use Rattle.std.specs.Ordering.{int_eq};
 ghost use Rattle.column_types.specs.Value.{fits_kind};
 ghost use Rattle.column_types.specs.declared.kind.Kind.TheVariants as kind;
+ghost use Rattle.key_places.specs.Places.{Puts, place_of};
 ghost use Rattle.graph_model.specs.Seats.{Fit, live_seats, no_seat, sits, sits_at, key_at as key_in, seated, vacated, reset};
 ghost use Rattle.graph_model.specs.Parts.{ArePartsOf, AreRanks};
 
 use crate::Prop;
-use crate::cells::{copy_row, put_row, set_flag};
+use crate::cells::{copy_row, make_flags, put_row};
 use crate::parts::{TableParts, are_as_long, copied_parts};
 use crate::places::ranks_of;
 use column_types::{EditableColumn, List, NoMemory, Value};
+use key_places::KeyPlaces;
 use std::alloc::Global;
-use std::collections::HashMap;
 use std::marker::Model;
 
 /// The most seats of a table, those of rows that were taken out among them.
@@ -26,7 +25,7 @@ pub(crate) struct Table {
     keys: List<i64>,
     columns: List<EditableColumn>,
     dead: Vec<bool>,
-    index: HashMap<i64, u32>,
+    index: KeyPlaces,
     live: u32,
 }
 
@@ -51,22 +50,21 @@ fn empty_columns(alloc: Global, props: &[Prop]) -> Result<List<EditableColumn>, 
     Ok(columns)
 }
 
-/// Appends a key that the index does not know, and tells it to the index.
-fn add_key(keys: &mut List<i64>, index: &mut HashMap<i64, u32>, key: i64) -> Result<(), NoMemory>
+/// Appends a key, and tells the index that it stands there.
+fn add_key(keys: &mut List<i64>, index: &mut KeyPlaces, key: i64) -> Result<(), NoMemory>
     requires few { length keys.old < 4294967296 }
-    requires new { get int_eq index.old key ≡ None }
     ensures keys { OnOk result (keys.new ≡ keys.old ++ key ∷ []) }
-    ensures told { OnOk result (Updates int_eq index.old index.new key (Some (length keys.old))) }
+    ensures told { OnOk result (Puts index.old index.new key (Some (length keys.old))) }
     ensures keys_stay { OnErr result (keys.new ≡ keys.old) }
-    ensures index_stays { OnErr result ((k : ℤ) → get int_eq index.new k ≡ get int_eq index.old k) }
+    ensures index_stays { OnErr result ((k : ℤ) → place_of index.new k ≡ place_of index.old k) }
 {
     let seat = keys.len() as u32;
-    index.insert(key, seat)?;
-    let pushed = keys.push(key);
-    if pushed.is_err() {
-        index.remove(&key);
+    keys.push(key)?;
+    let told = index.insert(key, seat);
+    if told.is_err() {
+        keys.remove(seat);
     }
-    pushed
+    told
 }
 
 impl Table {
@@ -78,7 +76,7 @@ impl Table {
             keys: List::new(alloc),
             columns: empty_columns(alloc, props)?,
             dead: Vec::new(alloc),
-            index: HashMap::new(alloc),
+            index: KeyPlaces::new(alloc),
             live: 0,
         })
     }
@@ -108,17 +106,14 @@ impl Table {
     pub(crate) fn has(&self, key: i64) -> bool
         ensures { result ≡ list_any (sits key) self.now.seats }
     {
-        self.index.contains_key(&key)
+        self.index.contains(key)
     }
 
     /// The seat where the key sits.
     pub(crate) fn seat_of(&self, key: i64) -> Option<u32>
         ensures { result ≡ position (sits key) self.now.seats }
     {
-        match self.index.get(&key) {
-            Some(seat) => Some(*seat),
-            None => None,
-        }
+        self.index.get(key)
     }
 
     /// The key of the row that was put in a seat.
@@ -203,9 +198,10 @@ impl Table {
         ensures ok { OnOk result (self.new ≡ record { kinds = self.old.kinds; seats = vacated self.old.seats seat }) }
         ensures err { OnErr result (self.new ≡ self.old) }
     {
-        set_flag(&mut self.dead, seat)?;
+        make_flags(&mut self.dead, seat)?;
         let key = self.keys.as_slice()[seat as usize];
-        self.index.remove(&key);
+        self.index.remove(key)?;
+        self.dead[seat as usize] = true;
         self.live -= 1;
         Ok(())
     }

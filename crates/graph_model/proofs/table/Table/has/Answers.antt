@@ -10,7 +10,7 @@ pub returns : goal.returns
 returns c =
     let t = c.self.inside in
     let fits : FitsSigned w64 c.args.key = c.ranges.key in
-    let found = rw (to_z-of_z w64 c.args.key fits) at c.contains_key.ensures in
+    let found = rw (to_z-of_z w64 c.args.key fits) at c.contains.ensures in
     found ∙ ap is_some (c.self.invariant.told.indexed c.args.key)
     ∙ position_any (sits c.args.key) (seats_from t.keys t.columns t.dead.items)
     ∙ ap (λ x. list_any (sits c.args.key) x.seats) c.self.view_is

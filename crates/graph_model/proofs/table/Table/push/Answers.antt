@@ -1,11 +1,10 @@
-use Rattle.std.proofs.Common.{◌≡◌, ◌<◌, ◌∙◌, None, false, arith, sym, ap, subst, length, FitsSigned, w64}
+use Rattle.std.proofs.Common.{◌≡◌, ◌<◌, ◌∙◌, false, arith, sym, ap, subst, length, FitsSigned, w64}
 use Rattle.std.specs.List.{AllZip, list_any}
 use Rattle.std.proofs.lemmas.Int.{to_z-of_z}
 use Rattle.std.proofs.lemmas.Bool.Decides.{nat_tests}
 use Rattle.std.proofs.lemmas.List.Sums.{length-filter, count_by-le-length}
 use Rattle.std.proofs.lemmas.Result.{err_from_is_err_and}
 use Rattle.graph_model.specs.Seats.{TableData, KeepsBelow, HasRow, is_live, sits, seats_from, seated}
-use Rattle.graph_model.proofs.Positions.{position_nowhere}
 use Rattle.graph_model.proofs.Memory.{kept_is_table, same_is_table, push_is_table, kept_view, push_view, length_seats}
 use Rattle.graph_model.proofs.table.Table.push.Goals as goal
 
@@ -21,13 +20,6 @@ returns-in_err-put_row-clause-err c =
     let kept = subst (λ n. AllZip (KeepsBelow n) t.columns c.put_row.new.columns) c.len-seat.ensures c.put_row.ensures.kept in
     let p = err_from_is_err_and c.from_residual.result c.from_residual.ensures.1 in
     rw p.1 (kept_view t.keys t.columns c.put_row.new.columns t.dead.items kept ∙ c.self.view_is)
-
-pub add_key-requires-clause-new : goal.add_key-requires-clause-new
-add_key-requires-clause-new c =
-    let t = c.self.inside in
-    let fits : FitsSigned w64 c.args.key = c.ranges.key in
-    let absent : list_any (sits c.args.key) (seats_from t.keys t.columns t.dead.items) ≡ false = subst (λ x. list_any (sits c.args.key) x.seats ≡ false) (sym c.self.view_is) c.requires.new in
-    rw (to_z-of_z w64 c.args.key fits) (c.self.invariant.told.indexed c.args.key ∙ position_nowhere (sits c.args.key) (seats_from t.keys t.columns t.dead.items) absent)
 
 pub invariant_of-self-in_err-add_key : goal.invariant_of-self-in_err-add_key
 invariant_of-self-in_err-add_key c =
