@@ -25,3 +25,4 @@ pub mod Moved
 pub mod VertexTables
 pub mod SortedTables
 pub mod FewSteps
+pub mod KeptSlots

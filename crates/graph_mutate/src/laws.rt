@@ -4,12 +4,15 @@ ghost use Rattle.graph_schema.specs.declared.schema.EdgeTable.{EdgeTable as Shap
 ghost use Rattle.graph_model.specs.Keys.{rows_at};
 ghost use Rattle.graph_model.specs.Graph.{IsGraph};
 ghost use Rattle.graph_slots.specs.Meaning.{slot_value};
+ghost use Rattle.graph_slots.specs.Slots.{slots};
 ghost use Rattle.graph_mutate.specs.Transposed.{transposed, turned_slot};
 ghost use Rattle.graph_mutate.specs.Undirected.{undirected, mixed_table, is_too_big};
 ghost use Rattle.graph_mutate.specs.Simplified.{simplified};
 ghost use Rattle.graph_mutate.specs.Sorted.{sorted, row_degree};
+ghost use Rattle.graph_mutate.specs.Mutated.{mutated, kept_slots};
 ghost use Rattle.graph_mutate.specs.Laws.{HasReverses, IsSimple, IsSorted};
 
+use crate::Mutation;
 use graph_model::Graph;
 use graph_slots::SlotName;
 
@@ -51,3 +54,11 @@ pub fn sorted_graphs_are_sorted(graph: &Graph)
 {
     graph.sound();
 }
+
+/// No two slots of a changed graph keep the same slot of the graph. Each number that is kept is the number of a slot of the graph,
+/// and the changed graph has as many slots as the graph.
+pub fn no_slot_is_kept_twice(graph: &Graph, how: Mutation)
+    ensures once { (i j n : ℕ) → slice_get (kept_slots how graph.now) i ≡ Some (Some n) → slice_get (kept_slots how graph.now) j ≡ Some (Some n) → i ≡ j }
+    ensures known { (i n : ℕ) → slice_get (kept_slots how graph.now) i ≡ Some (Some n) → n < length (slots graph.now.schema) }
+    ensures slots { length (slots (mutated how graph.now).schema) ≡ length (slots graph.now.schema) }
+{}

@@ -21,8 +21,8 @@ mod tables;
 mod undirect;
 
 pub use laws::{
-    simplified_graphs_are_simple, sorted_graphs_are_sorted, transposed_graphs_are_graphs,
-    undirected_graphs_have_reverse_edges,
+    no_slot_is_kept_twice, simplified_graphs_are_simple, sorted_graphs_are_sorted,
+    transposed_graphs_are_graphs, undirected_graphs_have_reverse_edges,
 };
 pub use making::mutate;
 pub use mutation::{MutateFault, Mutation};

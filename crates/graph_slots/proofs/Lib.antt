@@ -5,3 +5,4 @@ pub mod Order
 pub mod Starts
 pub mod SlotAt
 pub mod FewNumbers
+pub mod KeptSlots

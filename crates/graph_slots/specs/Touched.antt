@@ -1,5 +1,5 @@
 -- Which slots changes touch.
-use Rattle.std.specs.Prelude.{ℕ, ◌+◌, Bool, false, ◌&&◌, ◌||◌, ◌==◌, List, [], ◌∷◌, Option, Some, None}
+use Rattle.std.specs.Prelude.{ℕ, ◌+◌, Bool, true, false, ◌&&◌, ◌||◌, ◌==◌, List, [], ◌∷◌, map, Option, Some, None}
 use Rattle.graph_schema.specs.Schema.{SchemaData}
 use Rattle.graph_model.specs.Graph.{source_at, destination_at}
 use Rattle.graph_model.specs.Graph.{GraphData}
@@ -8,6 +8,8 @@ use Rattle.graph_model.specs.declared.change.Change.TheVariants.{InsertVertex, D
 use Rattle.graph_model.specs.declared.change.Why.{Why}
 use Rattle.graph_model.specs.Change.{misfit, apply}
 use Rattle.graph_slots.specs.declared.slot.SlotName.{SlotName}
+use Rattle.graph_slots.specs.Slots.{slots}
+use Rattle.graph_slots.specs.Numbers.{slot_number}
 use Rattle.graph_slots.specs.declared.slot.SlotName.TheVariants.{VertexKey, VertexProp, EdgeKey, Source, Destination, Out, Into, EdgeProp}
 
 -- a slot of a vertex table
@@ -62,6 +64,15 @@ touches_unless None s c x = touches s c x
 abbrev pub touched : GraphData → List Change → SlotName → Bool
 touched g [] x = false
 touched g (c ∷ cs) x = touches_unless (misfit g c) g.schema c x || touched (apply g c) cs x
+
+-- the number of a slot that stays as it is; none where it is touched
+abbrev pub number_unless : Bool → SchemaData → SlotName → Option ℕ
+number_unless true s x = None
+number_unless false s x = Some (slot_number s x)
+
+-- for each slot after some changes the slot before them that it keeps, that of the same number; none where a change touches it
+abbrev pub untouched_slots : GraphData → List Change → List (Option ℕ)
+untouched_slots g changes = map (λ x. number_unless (touched g changes x) g.schema x) (slots g.schema)
 
 -- a change that does not fit counts as skipped
 abbrev pub skips : Option Why → ℕ
