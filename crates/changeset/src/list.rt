@@ -5,7 +5,7 @@ use crate::overlay::Overlay;
 use column_types::{List, NoMemory};
 use graph_model::{Change, Why};
 use graph_snap::Snapshot;
-use std::alloc::Global;
+use std::alloc::{AllocError, Global};
 use std::marker::Model;
 use thiserror::Error;
 
@@ -43,6 +43,16 @@ impl From<NoMemory> for FitFault {
 
     fn from(_error: NoMemory) -> FitFault {
         FitFault::NoMemory
+    }
+}
+
+impl Clone for ChangeList {
+    ghost is_clone = { λ s t. t ≡ s };
+
+    fn clone(&self) -> Result<ChangeList, AllocError> {
+        Ok(ChangeList {
+            changes: self.changes.clone()?,
+        })
     }
 }
 
