@@ -1,0 +1,16 @@
+use Rattle.std.proofs.Common.{◌≡◌, ℕ, ◌+◌, ◌*◌, ◌/◌, ◌<◌, ◌∙◌, slice_index, ap, arith}
+use Rattle.std.specs.Prelude.{sum_by}
+use Rattle.algo_digraph.specs.Arcs.{in_arcs}
+use Rattle.algo_rank.proofs.Shares.{next_at}
+use Rattle.algo_rank.proofs.rounds.next_ranks.Goals as goal
+
+pub returns-clause-each : goal.returns-clause-each
+returns-clause-each g c = λ v lt.
+    let digraph = c.args.digraph.now in
+    let shares = c.as_slice-shares.result.now in
+    let n = c.vertex_count-n.ensures.count in
+    let at = c.in_ok-next.ensures.at v 0 (omega (arith, lt, n)) in
+    at
+    ∙ ap (λ k. 15 * 4294967296 / (100 * k) + sum_by (λ a. slice_index shares a.vertex) (in_arcs digraph v)) n
+    ∙ next_at digraph c.vertex_count-n.ensures.closed c.args.ranks.now c.args.degrees.now shares c.requires.each
+    (λ u less some. ap (λ xs. slice_index xs u) c.as_slice-shares.ensures ∙ c.in_ok-shares.ensures.each u (omega (arith, less, n)) some) v

@@ -1,0 +1,35 @@
+-- The graph after a list of changes, and which slots of it are the base's.
+use Rattle.std.specs.Prelude.{ℕ, Bool, true, false, List, map, fold, Option, Some, None}
+use Rattle.graph_schema.specs.Schema.{SchemaData}
+use Rattle.graph_model.specs.Graph.{GraphData}
+use Rattle.graph_model.specs.declared.change.Change.{Change}
+use Rattle.graph_model.specs.Change.{apply}
+use Rattle.graph_slots.specs.declared.slot.SlotName.{SlotName}
+use Rattle.graph_slots.specs.Slots.{slots}
+use Rattle.graph_slots.specs.Numbers.{slot_number}
+use Rattle.graph_slots.specs.Touched.{touched, untouched_slots}
+use Rattle.graph_slots.specs.declared.part.Part.{Part}
+use Rattle.graph_slots.specs.Meaning.{slot_value}
+use Rattle.graph_snap.specs.declared.derived.Derived.{Derived}
+use Rattle.graph_snap.specs.declared.derived.Derived.TheVariants.{Kept, New}
+
+-- the graph after the changes in turn. One that does not fit the graph after those before it leaves that graph
+abbrev pub folded : GraphData → List Change → GraphData
+folded g changes = fold apply g changes
+
+-- for each slot the base's slot that it keeps. A slot is new exactly where a change that fits touches it
+abbrev pub kept_slots : GraphData → List Change → List (Option ℕ)
+kept_slots g changes = untouched_slots g changes
+
+-- a new part where the slot is touched, and the base's part of a number where it is not
+abbrev pub derived_if : Bool → Part → ℕ → Derived
+derived_if true part n = New part
+derived_if false part n = Kept n
+
+-- what a slot of the snapshot gets: what it holds in the graph after the changes, or the base's part of the same number
+abbrev pub folded_slot : GraphData → List Change → SlotName → Derived
+folded_slot g changes x = derived_if (touched g changes x) (slot_value (folded g changes) x) (slot_number g.schema x)
+
+-- and each of them, in slot order
+abbrev pub folded_slots : GraphData → List Change → List Derived
+folded_slots g changes = map (folded_slot g changes) (slots g.schema)
