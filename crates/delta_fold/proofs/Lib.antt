@@ -5,3 +5,4 @@ pub mod FoldedSlots
 pub mod PieceLists
 pub mod Rows
 pub mod Prefixes
+pub mod SetColumns

@@ -2,3 +2,4 @@ pub mod Folded
 pub mod Steps
 pub mod Marked
 pub mod Pieces
+pub mod Sets

@@ -24,6 +24,7 @@ mod folding;
 mod laws;
 mod marks;
 mod parts;
+mod sets;
 mod slots;
 
 pub use folding::fold;

@@ -1,4 +1,4 @@
-use Rattle.std.proofs.Common.{◌≡◌, ◌<◌, ◌+◌, ◌++◌, refl, length, map, sum_by, arith, rules, subst, sym, ap, ◌∙◌}
+use Rattle.std.proofs.Common.{◌≡◌, ◌<◌, ◌+◌, ◌++◌, refl, length, map, sum_by, arith, subst, sym, ap, ◌∙◌}
 use Rattle.std.proofs.lemmas.List.{length_push}
 use Rattle.graph_model.proofs.ColumnsOf.{next_item, all_handed}
 use Rattle.graph_slots.specs.Numbers.{HasSlot}
@@ -13,18 +13,11 @@ loop-column-init g c = record {
   done = nothing_more c.args.base.now.schema c.args.marks.now c.args.derived.now c.args.steps.now;
 }
 
-pub prop_slot-requires-clause-slot : goal.prop_slot-requires-clause-slot
-prop_slot-requires-clause-slot g c =
+pub prop_slot-requires : goal.prop_slot-requires
+prop_slot-requires g c =
     let l = c.loop-column in
     let next = next_item l.yielded l.column-iterator.rest.items _ c.args.values c.in-Some.column l.invariant.whole c.in-Some.ensures.steps.0 in
     subst (HasSlot c.args.base.now.schema) (sym c.prop_name-name.ensures) (c.requires.slots l.prop (omega (arith, l.invariant.prop, next.0)))
-
-pub overflow_add-prop : goal.overflow_add-prop
-overflow_add-prop g c =
-    let l = c.loop-column in
-    let next = next_item l.yielded l.column-iterator.rest.items _ c.args.values c.in-Some.column l.invariant.whole c.in-Some.ensures.steps.0 in
-    let small : l.prop < 64 = omega (arith, l.invariant.prop, next.0, c.requires.few) in
-    search rules
 
 pub loop-column-preserved : goal.loop-column-preserved
 loop-column-preserved g c =

@@ -1,7 +1,6 @@
-use Rattle.std.proofs.Common.{◌≡◌, ◌<◌, ◌+◌, ◌++◌, Some, refl, length, map, sum_by, slice_get, arith, rules, subst, sym, ap, ◌∙◌}
+use Rattle.std.proofs.Common.{◌≡◌, ◌<◌, ◌+◌, ◌++◌, Some, refl, length, map, sum_by, slice_get, arith, subst, sym, ap, ◌∙◌}
 use Rattle.std.proofs.lemmas.List.{length_push}
 use Rattle.std.proofs.lemmas.Option.{slice_get-get_or}
-use Rattle.graph_schema.proofs.Sound.{few_tables}
 use Rattle.graph_model.proofs.ColumnsOf.{next_item, all_handed}
 use Rattle.graph_columns.specs.TableParts.{IsVertexTable}
 use Rattle.delta_fold.specs.Pieces.{vertex_pieces_from, picked, picked_steps}
@@ -33,13 +32,6 @@ push_vertex_table-requires-clause-keep g c =
     let l = c.loop-columns in
     let next = next_item l.yielded l.columns-iterator.rest.items _ c.args.tables c.in-Some.columns l.invariant.whole c.in-Some.ensures.steps.0 in
     subst IsVertexTable next.1 (c.requires.keep (length l.yielded) c.in-Some.columns next.0)
-
-pub overflow_add-table : goal.overflow_add-table
-overflow_add-table g c =
-    let l = c.loop-columns in
-    let next = next_item l.yielded l.columns-iterator.rest.items _ c.args.tables c.in-Some.columns l.invariant.whole c.in-Some.ensures.steps.0 in
-    let small : l.table < 32 = omega (arith, l.invariant.table, next.0, c.requires.tables, few_tables c.args.base.now.schema c.sound.ensures.schema) in
-    search rules
 
 pub loop-columns-preserved : goal.loop-columns-preserved
 loop-columns-preserved g c =
