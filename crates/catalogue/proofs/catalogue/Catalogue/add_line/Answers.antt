@@ -1,6 +1,6 @@
 use Rattle.std.proofs.Common.{◌≡◌, ◌∙◌, ap, sym, subst, None, List}
-use Rattle.catalogue_state.specs.State.{Name, State, roots, line_of, roots_of, change_first, of_who}
-use Rattle.catalogue_state.specs.Step.{pin_as}
+use Rattle.catalogue.specs.State.{Name, State, roots, line_of, roots_of, change_first, of_who}
+use Rattle.catalogue.specs.Step.{pin_as}
 use Rattle.catalogue.specs.Kept.{MayPublish}
 use Rattle.catalogue.proofs.Limits.{published_kept}
 use Rattle.catalogue.proofs.Apart.{registry_in}

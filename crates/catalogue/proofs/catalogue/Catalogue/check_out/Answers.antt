@@ -1,8 +1,8 @@
 use Rattle.std.proofs.Common.{◌≡◌, ap, sym, subst, refl, Some}
 use Rattle.std.proofs.lemmas.Result.{IfOk-weaker}
-use Rattle.catalogue_state.specs.declared.ask.Ask.TheVariants.{Checkout}
-use Rattle.catalogue_state.specs.State.{State}
-use Rattle.catalogue_state.specs.Step.{with_session, move_to, to_snap}
+use Rattle.catalogue.specs.declared.ask.Ask.TheVariants.{Checkout}
+use Rattle.catalogue.specs.State.{State}
+use Rattle.catalogue.specs.Step.{with_session, move_to, to_snap}
 use Rattle.catalogue.specs.Response.{IsServed}
 use Rattle.catalogue.proofs.Drawing.{held_moved, came_served}
 use Rattle.catalogue.proofs.catalogue.Catalogue.check_out.Goals as goal

@@ -1,10 +1,10 @@
 use Rattle.std.proofs.Common.{◌≡◌, ◌∙◌, ap, sym, subst, refl, None, Some}
 use Rattle.std.proofs.lemmas.Result.{IfOk-weaker}
-use Rattle.catalogue_state.specs.declared.ask.Ask.TheVariants.{Get}
-use Rattle.catalogue_state.specs.State.{State, held_of}
-use Rattle.catalogue_state.specs.Step.{with_session, hold_more}
+use Rattle.catalogue.specs.declared.ask.Ask.TheVariants.{Get}
+use Rattle.catalogue.specs.State.{State, held_of}
+use Rattle.catalogue.specs.Step.{with_session, hold_more}
 use Rattle.catalogue.specs.Kept.{MayPin}
-use Rattle.catalogue_state.specs.Gift.{held_under}
+use Rattle.catalogue.specs.Gift.{held_under}
 use Rattle.catalogue.specs.Response.{IsServed}
 use Rattle.catalogue.proofs.Drawing.{held_pinned, came_served}
 use Rattle.catalogue.proofs.catalogue.Catalogue.get.Goals as goal

@@ -1,8 +1,8 @@
 use Rattle.std.proofs.Common.{◌≡◌, ◌∙◌, ◌<◌, ap, sym, subst, Some, None, false, length, arith, [], ◌∷◌}
 use Rattle.std.specs.Prelude.{find, is_some, Contains}
 use Rattle.std.specs.Option.{option_copied}
-use Rattle.catalogue_state.specs.declared.parts.Line.{Line}
-use Rattle.catalogue_state.specs.State.{named, session_of, line_of, held_of, roots}
+use Rattle.catalogue.specs.declared.parts.Line.{Line}
+use Rattle.catalogue.specs.State.{named, session_of, line_of, held_of, roots}
 use Rattle.catalogue.proofs.Numbers.{nothing_found, copied_is_some}
 use Rattle.catalogue.proofs.Coming.{held_root}
 use Rattle.catalogue.proofs.catalogue.Catalogue.line_to_publish.Goals as goal

@@ -1,5 +1,0 @@
-pub mod Folded
-pub mod Steps
-pub mod Marked
-pub mod Pieces
-pub mod Sets
