@@ -32,3 +32,11 @@ pub record GoesOn (places : KeyPlaces) (key : ℤ) (place : ℕ) : Type 0 where
   pub few : place < 4294967295
   pub behind : 0 < place → key ≡ places.first +ℤ pos places.run
   pub free : get int_eq places.exceptions key ≡ None
+
+-- no key becomes an exception, and none ceases to be one
+abbrev pub ExceptionsStay : KeyPlaces → KeyPlaces → Type 0
+ExceptionsStay old new = new.exceptions ≡ old.exceptions
+
+-- the run does not have a key
+abbrev pub IsOffRun : KeyPlaces → ℤ → Type 0
+IsOffRun places key = place_in_run places.first places.run key ≡ None

@@ -3,7 +3,7 @@ ghost use Rattle.std.specs.Prelude.{◌≡◌, ◌↔◌, ℤ, None, Some, is_so
 ghost use Rattle.std.specs.Option.{option_or};
 ghost use Rattle.std.specs.HashMap.{get};
 ghost use Rattle.std.specs.Ordering.{int_eq};
-ghost use Rattle.key_places.specs.Places.{GoesOn, Puts, place_in_run, place_of};
+ghost use Rattle.key_places.specs.Places.{ExceptionsStay, GoesOn, IsOffRun, Puts, place_of};
 
 use crate::run::{is_behind, place_in};
 use column_types::NoMemory;
@@ -75,7 +75,7 @@ impl KeyPlaces {
         ensures ok { OnOk result (Puts self.old self.new key (Some place)) }
         ensures err { OnErr result ((k : ℤ) → place_of self.new k ≡ place_of self.old k) }
         ensures next { GoesOn self.old key place → IsOk result }
-        ensures next_free { GoesOn self.old key place → self.new.exceptions ≡ self.old.exceptions }
+        ensures next_free { GoesOn self.old key place → ExceptionsStay self.old self.new }
     {
         if self.goes_on(key, place) {
             if place == 0 {
@@ -104,7 +104,7 @@ impl KeyPlaces {
     pub fn remove(&mut self, key: i64) -> Result<(), NoMemory>
         ensures ok { OnOk result (Puts self.old self.new key None) }
         ensures err { OnErr result ((k : ℤ) → place_of self.new k ≡ place_of self.old k) }
-        ensures elsewhere { place_in_run self.old.first self.old.run key ≡ None → IsOk result }
+        ensures off_run { IsOffRun self.old key → IsOk result }
     {
         match place_in(self.first, self.run, key) {
             Some(_) => {
