@@ -7,6 +7,8 @@
 //! | `hops KEY by WORKERS ..` | for each number of workers the hop distances from the vertex of a key, `-` where there is no walk |
 //! | `components by WORKERS ..` | the labels of the components |
 //! | `cores by WORKERS ..` | the core numbers |
+//! | `strong by WORKERS ..` | the strong labels |
+//! | `rank ROUNDS by WORKERS ..` | the ranks after so many rounds, from 0 to 100 |
 //! | `weights PROP KEY by WORKERS ..` | the least weights of the walks from the vertex of a key, or why there is no answer |
 //! | `round N PLACE .. by WORKERS ..` | how many items a round over the numbers below N gives, and those at places; an item is 7 more than its number |
 ghost use Rattle.std.specs.Prelude.{◌≤◌, IfSome};
@@ -19,6 +21,7 @@ use crate::show::{
 use algo_core::core_numbers;
 use algo_digraph::{Arcs, FlatDigraph, VertexOrder};
 use algo_paths::{PathFault, least_weights};
+use algo_rank::{rank, strong_components};
 use algo_reach::{components, hops};
 use column_types::{NoMemory, Text};
 use graph_snap::{Snapshot, VertexAt};
@@ -160,6 +163,8 @@ fn run<R: Threads + Sync>(
         "hops" => hops_from(rt, alloc, on, rest, workers),
         "components" => counts_text(alloc, components(rt, alloc, on, workers)?.as_slice()),
         "cores" => counts_text(alloc, core_numbers(rt, alloc, on, workers)?.as_slice()),
+        "strong" => counts_text(alloc, strong_components(rt, alloc, on, workers)?.as_slice()),
+        "rank" => ranks_after(rt, alloc, on, rest, workers),
         "weights" => weights_from(rt, alloc, on, rest, workers),
         "round" => round_items(rt, alloc, rest, workers),
         _ => Text::from_str(alloc, "no such question"),
@@ -178,6 +183,23 @@ fn hops_from<R: Threads + Sync>(
     match vertex_of(on, word) {
         Some(at) => counts_or_none_text(alloc, hops(rt, alloc, on, at, workers)?.as_slice()),
         None => Text::from_str(alloc, "no vertex"),
+    }
+}
+
+fn ranks_after<R: Threads + Sync>(
+    rt: &R,
+    alloc: Global,
+    on: &Snapshot,
+    word: &str,
+    workers: u32,
+) -> Result<Text, NoMemory>
+    requires { (1 ≤ workers) × (workers ≤ 64) }
+{
+    match word.parse::<u32>() {
+        Ok(rounds) if rounds <= 100 => {
+            counts_text(alloc, rank(rt, alloc, on, rounds, workers)?.as_slice())
+        }
+        _ => Text::from_str(alloc, "no number of rounds"),
     }
 }
 

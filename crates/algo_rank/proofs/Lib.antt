@@ -1,0 +1,11 @@
+pub mod Shares
+pub mod Reaching
+pub mod Steps
+pub mod Meeting
+pub mod Joining
+pub mod Labelling
+pub mod Heads
+pub mod Closing
+pub mod Searching
+pub mod Ends
+pub mod Moves
