@@ -1,0 +1,4 @@
+pub mod Folded
+pub mod Steps
+pub mod Marked
+pub mod Pieces
