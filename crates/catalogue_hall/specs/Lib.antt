@@ -1,4 +1,3 @@
 pub mod History
 pub mod Told
-pub mod Building
 pub mod Kept

@@ -12,5 +12,3 @@ pub mod Spelled
 pub mod Whys
 pub mod Surely
 pub mod DueWords
-pub mod Rests
-pub mod Written

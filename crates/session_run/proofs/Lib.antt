@@ -1,5 +1,4 @@
 pub mod Nexts
-pub mod Rows
 pub mod Stepped
 pub mod Growth
 pub mod Runs
