@@ -2,9 +2,7 @@
 
 LIMIT = 16_777_216
 
-LATER = (
-    "transpose undirect simplify sortdeg build snapshot refresh tick feed change discard hops components cores weights drop query"
-).split()
+LATER = "refresh tick feed hops components cores weights drop query".split()
 
 # What may stand in a place of a script: the first words of lines, and how the place is told.
 ALLOWED = {
@@ -13,8 +11,8 @@ ALLOWED = {
     "edges": (("e", "end"), "inside an inline source, after its first 'e' line"),
     "phase": (("actor", "phase"), "right after 'phase'"),
     "actor": (
-        ("open", "close", "columns", "lines", "load", "clone", "publish", "unpublish", "get", "checkout", "release", "show", "rows",
-         "actor", "phase"),
+        ("open", "close", "columns", "lines", "load", "clone", "transpose", "undirect", "simplify", "sortdeg", "change", "discard",
+         "build", "snapshot", "publish", "unpublish", "get", "checkout", "release", "show", "rows", "actor", "phase"),
         "among the commands of an actor",
     ),
 }
@@ -33,6 +31,14 @@ FORMS = {
     "lines": "lines",
     "load": "load G from S",
     "clone": "clone G from H",
+    "transpose": "transpose G from H",
+    "undirect": "undirect G from H",
+    "simplify": "simplify G from H",
+    "sortdeg": "sortdeg G from H",
+    "change": "change G ROW",
+    "discard": "discard",
+    "build": "build G from H",
+    "snapshot": "snapshot G",
     "publish": "publish G as L keep K threshold T",
     "unpublish": "unpublish L",
     "get": "get G from L",
@@ -41,6 +47,9 @@ FORMS = {
     "show": "show S",
     "rows": "rows G",
 }
+
+# The lines whose last word is the rest of the line, with all its spaces.
+RESTS = ("change",)
 
 # The numbers of a line that are no keys: the place of the word, what it is, the greatest that it may be, and what is said of it.
 # The least is 1.

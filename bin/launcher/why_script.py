@@ -117,7 +117,9 @@ def explain_later(fault):
 def explain_form(fault):
     first, line = fault.first, fault.line
     it = fault.explain(f"this is not how {quoted(first)} is written")
-    if line.endswith(b" "):
+    if first in lines.RESTS:
+        explain_rest(fault, it)
+    elif line.endswith(b" "):
         end = len(line.rstrip(b" "))
         it.mark(line, end, len(line)).note("A blank at the end of a line counts as one more word: take it out.")
     elif b"  " in line:
@@ -131,6 +133,15 @@ def explain_form(fault):
         explain_words(fault, it)
     forms = [f"'{form}'" for form in lines.FORMS[first].split(", or ")]
     return it.note(f"It is written {' or '.join(forms)}.")
+
+
+def explain_rest(fault, it):
+    """Marks the end of a line whose last word is the rest of the line, which is missing."""
+    it.mark(fault.line, len(fault.line), len(fault.line))
+    if len(fault.words) == 1:
+        it.note("A word is missing: G.")
+    else:
+        it.note("The row is missing. It begins behind the name of the graph and one space, and ends with the line.")
 
 
 def explain_words(fault, it):
@@ -180,6 +191,8 @@ def explain_name(fault):
 
 def bad_name(word):
     """Returns why a word is no name, or None where it is one."""
+    if not word:
+        return "The word is empty: words are separated by exactly one space, and none stands at the end of a line."
     if len(word) > 64:
         return f"It has {len(word)} characters."
     if word[:1].isascii() and word[:1].isdigit():

@@ -1,83 +1,72 @@
-//! Calls of a catalogue.
+//! Calls of several callers on one catalogue.
 ghost use Rattle.std.specs.Prelude.{◌≡◌, ◌<◌};
 
+use crate::callers::Callers;
 use crate::read_calls::read_call;
 use crate::runs::Runs;
 use crate::sources::{graph_of_six, source_of};
 use crate::texts::{push_answer, push_bare_reply};
-use catalogue::{Ask, Call, Catalogue, Gift, Made, Reply};
-use column_types::{List, NoMemory, Steps, Text};
+use catalogue::Ask;
+use column_types::{NoMemory, Steps, Text};
 use graph_model::Graph;
 use journal_text::push_count;
 use std::alloc::Global;
 use std::marker::Brand;
 use std::sync::ledger::{Blank, Ledger};
 use std::thread::Threads;
-use turn_hall::Desk;
 
 /// The answers to calls of a new catalogue whose source is `s`.
 pub fn answers<R: Threads + Sync>(rt: &R, alloc: Global, parts: &str) -> Result<Text, NoMemory> {
     match graph_of_six(alloc)? {
         Some(graph) => {
-            let calls = Text::from_str(alloc, parts)?;
-            answers_over::<Brand, R>(rt, alloc, &graph, Blank::new(1), &calls)
+            let mut callers = callers_over::<Brand, R>(rt, alloc, &graph, Blank::new(1))?;
+            answers_of(&mut callers, rt, alloc, parts)
         }
         None => Text::from_str(alloc, "no schema"),
     }
 }
 
-/// The same, where the source has this graph.
-fn answers_over<L: Ledger, R: Threads + Sync>(
+/// The callers of a catalogue whose source has this graph.
+fn callers_over<L: Ledger, R: Threads + Sync>(
     rt: &R,
     alloc: Global,
     graph: &Graph,
     blank: Blank,
-    calls: &Text,
-) -> Result<Text, NoMemory>
+) -> Result<Callers, NoMemory>
     requires name { blank.name ≡ L.name }
     requires parts { blank.parts ≡ L.parts }
     requires some { 0 < blank.parts }
 {
     let mut steps = Steps::<L>::new(rt, blank);
-    let mut catalogue = catalogue_of(alloc, graph, &mut steps)?;
-    answers_of(&mut catalogue, alloc, calls.as_str(), &mut steps)
-}
-
-fn catalogue_of<L: Ledger>(
-    alloc: Global,
-    graph: &Graph,
-    steps: &mut Steps<L>,
-) -> Result<Catalogue, NoMemory> {
-    let mut sources = List::new(alloc);
-    sources.push(source_of(alloc, graph, steps)?)?;
-    Catalogue::new(alloc, sources)
+    let source = source_of(alloc, graph, &mut steps)?;
+    Callers::new(alloc, source)
 }
 
 /// The answers to parts, with bars between them.
-fn answers_of<L: Ledger>(
-    catalogue: &mut Catalogue,
+fn answers_of<R: Threads + Sync>(
+    callers: &mut Callers,
+    rt: &R,
     alloc: Global,
     parts: &str,
-    steps: &mut Steps<L>,
 ) -> Result<Text, NoMemory> {
     let mut answers = Text::new(alloc);
     for part in parts.split(" | ") {
-        let answer = part_answer(catalogue, alloc, part, steps)?;
+        let answer = part_answer(callers, rt, alloc, part)?;
         push_answer(&mut answers, answer.as_str())?;
     }
     Ok(answers)
 }
 
 /// The answer to a call, or to one call for each number of a range.
-fn part_answer<L: Ledger>(
-    catalogue: &mut Catalogue,
+fn part_answer<R: Threads + Sync>(
+    callers: &mut Callers,
+    rt: &R,
     alloc: Global,
     part: &str,
-    steps: &mut Steps<L>,
 ) -> Result<Text, NoMemory> {
     match range_of(part) {
-        Some(range) => range_answer(catalogue, alloc, range, steps),
-        None => call_answer(catalogue, alloc, part, steps),
+        Some(range) => range_answer(callers, rt, alloc, range),
+        None => call_answer(callers, rt, alloc, part),
     }
 }
 
@@ -89,29 +78,29 @@ fn range_of(part: &str) -> Option<(u64, u64, &str)> {
 }
 
 /// The answers to a call with each number of a range.
-fn range_answer<L: Ledger>(
-    catalogue: &mut Catalogue,
+fn range_answer<R: Threads + Sync>(
+    callers: &mut Callers,
+    rt: &R,
     alloc: Global,
     (first, last, call): (u64, u64, &str),
-    steps: &mut Steps<L>,
 ) -> Result<Text, NoMemory> {
     let mut runs = Runs::new(alloc);
     for number in first..=last {
-        runs.push(numbered_answer(catalogue, alloc, call, number, steps)?)?;
+        runs.push(numbered_answer(callers, rt, alloc, call, number)?)?;
     }
     runs.finish()
 }
 
 /// The answer to a call with a number in the place of `#`, with `#` for that number.
-fn numbered_answer<L: Ledger>(
-    catalogue: &mut Catalogue,
+fn numbered_answer<R: Threads + Sync>(
+    callers: &mut Callers,
+    rt: &R,
     alloc: Global,
     call: &str,
     number: u64,
-    steps: &mut Steps<L>,
 ) -> Result<Text, NoMemory> {
     let call = with_number(alloc, call, number)?;
-    let answer = call_answer(catalogue, alloc, call.as_str(), steps)?;
+    let answer = call_answer(callers, rt, alloc, call.as_str())?;
     without_number(alloc, answer.as_str(), number)
 }
 
@@ -142,58 +131,34 @@ fn without_number(alloc: Global, text: &str, number: u64) -> Result<Text, NoMemo
 }
 
 /// The answer to a caller's number and its call.
-fn call_answer<L: Ledger>(
-    catalogue: &mut Catalogue,
+fn call_answer<R: Threads + Sync>(
+    callers: &mut Callers,
+    rt: &R,
     alloc: Global,
     part: &str,
-    steps: &mut Steps<L>,
 ) -> Result<Text, NoMemory> {
     let (who, call) = part.split_once(' ').unwrap_or((part, ""));
     let Ok(who) = who.parse::<u32>() else {
         return Text::from_str(alloc, "no caller");
     };
     match read_call(alloc, call)? {
-        Some(ask) => ask_answer(catalogue, alloc, who, ask, steps),
+        Some(ask) => ask_answer(callers, rt, alloc, who, ask),
         None => Text::from_str(alloc, "no call"),
     }
 }
 
-/// The reply to a call and what is handed out, while there are numbers left.
-fn ask_answer<L: Ledger>(
-    catalogue: &mut Catalogue,
+/// The reply to a call.
+fn ask_answer<R: Threads + Sync>(
+    callers: &mut Callers,
+    rt: &R,
     alloc: Global,
     who: u32,
     ask: Ask,
-    steps: &mut Steps<L>,
 ) -> Result<Text, NoMemory> {
-    if !catalogue.is_ready() {
-        return Text::from_str(alloc, "not ready");
-    }
-    let call = Call {
-        ask,
-        made: Made::Missing,
+    let Some(reply) = callers.ask(rt, alloc, who, ask)? else {
+        return Text::from_str(alloc, "no caller");
     };
-    let served = catalogue.serve(alloc, who, call, steps)?;
-    reply_and_gift(alloc, &served.reply, &served.gift)
-}
-
-fn reply_and_gift(alloc: Global, reply: &Reply, gift: &Gift) -> Result<Text, NoMemory> {
     let mut answer = Text::new(alloc);
-    push_bare_reply(&mut answer, alloc, reply)?;
-    push_gift(&mut answer, gift)?;
+    push_bare_reply(&mut answer, alloc, &reply)?;
     Ok(answer)
-}
-
-fn push_gift(answer: &mut Text, gift: &Gift) -> Result<(), NoMemory> {
-    match gift {
-        Gift::Nothing => Ok(()),
-        Gift::Source(source) => {
-            answer.push(" + source ")?;
-            answer.push(source.get().name.as_str())
-        }
-        Gift::Snap(snap) => {
-            answer.push(" + snapshot ")?;
-            push_count(answer, snap.get().sid)
-        }
-    }
 }

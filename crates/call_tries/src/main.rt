@@ -2,11 +2,12 @@
 //!
 //! A line that begins with `== ` is a heading and is written as it is. Another is a word and parts with ` | ` between them; `~`
 //! in an answer stands for a line feed. Calls are written as in the journal, as `place g from s at 0`.
+//! `changes N` in a call stands for N changes, which put the vertices 1 to N into the first table.
 //!
-//! * `desk`: calls of a new catalogue whose one source is `s`, with a graph of six columns. A part is the caller's number and its
-//!   call. Its answer is the reply and what is handed out, as `ok sid 1 + snapshot 1`. `A..B: PART` stands for the parts that come of
-//!   PART with each number from A to B in the place of `#`. Its answer has `#` for each word that is that number, and equal answers
-//!   one after another are counted, as `64 times ok`.
+//! * `desk`: calls of several callers, 0 to 299, of a new catalogue whose one source is `s`, with a graph of six columns and no rows. A
+//!   part is the caller's number and its call, and its answer is the reply. `A..B: PART` stands for the parts that come of PART with each
+//!   number from A to B in the place of `#`. Its answer has `#` for each word that is that number, and equal answers one after
+//!   another are counted, as `64 times ok`.
 //! * `hall`: first `s` or `none`, the source of a new catalogue with its history; then calls of session 1, answered by their number
 //!   and reply; `snap G`, the snapshot that the session holds under a name; `count`, the length of the history; `sources`, their number.
 //! * `call`, `reply`, `refusal`: the text of calls; of replies, which are written as `Done`, `Front 3`, `Sid 1`, `Columns 1 2`,
@@ -18,6 +19,7 @@
 //!   journal, each as the journal heads it.
 #![tactic(auto)]
 
+mod callers;
 mod clients;
 mod desks;
 mod halls;

@@ -35,7 +35,7 @@ fn first_command(script: &Script) -> Option<&Command> {
 
 fn next_of_command(alloc: Global, command: &Command, replies: &str) -> Result<Text, NoMemory> {
     let replies = read_all_replies(alloc, replies)?;
-    match next_ask(alloc, command, &Own::new(alloc), replies.as_slice())? {
+    match next_ask(command, &Own::new(alloc), replies.as_slice())? {
         Some(ask) => call_text_of(alloc, &ask),
         None => Text::from_str(alloc, "nothing"),
     }

@@ -1,6 +1,9 @@
 //! Calls from their texts.
-use catalogue::{Ask, How, Mutation, Target};
-use column_types::{NoMemory, Text};
+use catalogue::{Ask, How, Target};
+use changeset::ChangeList;
+use column_types::{List, NoMemory, Text};
+use graph_model::Change;
+use graph_mutate::Mutation;
 use std::alloc::Global;
 
 /// The call that a text stands for, as the journal writes it. None where it stands for none.
@@ -26,6 +29,7 @@ pub fn read_call(alloc: Global, text: &str) -> Result<Option<Ask>, NoMemory> {
         "place" => read_place(alloc, rest),
         "derive" => read_derive(alloc, rest),
         "publish" => read_publish(alloc, rest),
+        "append" => read_append(alloc, rest),
         "get" => read_get(alloc, rest),
         "checkout" => read_checkout(alloc, rest),
         _ => Ok(None),
@@ -50,18 +54,77 @@ fn read_place(alloc: Global, text: &str) -> Result<Option<Ask>, NoMemory> {
     }))
 }
 
-/// The call of `G from H by clone`.
+/// The call of `G from H by WAY`.
 fn read_derive(alloc: Global, text: &str) -> Result<Option<Ask>, NoMemory> {
     let Some((name, rest)) = text.split_once(" from ") else {
         return Ok(None);
     };
-    let Some(base) = rest.strip_suffix(" by clone") else {
+    let Some((base, way)) = rest.split_once(" by ") else {
+        return Ok(None);
+    };
+    let Some(how) = read_way(alloc, way)? else {
         return Ok(None);
     };
     Ok(Some(Ask::Derive {
         name: Text::from_str(alloc, name)?,
         base: Text::from_str(alloc, base)?,
-        how: How::Mutate(Mutation::Clone),
+        how,
+    }))
+}
+
+/// The way of `clone`, `changes 2` and so on.
+fn read_way(alloc: Global, way: &str) -> Result<Option<How>, NoMemory> {
+    match way.strip_prefix("changes ") {
+        Some(count) => Ok(read_changes(alloc, count)?.map(How::Changes)),
+        None => Ok(read_mutation(way).map(How::Mutate)),
+    }
+}
+
+fn read_mutation(way: &str) -> Option<Mutation> {
+    match way {
+        "clone" => Some(Mutation::Clone),
+        "transpose" => Some(Mutation::Transpose),
+        "undirect" => Some(Mutation::Undirect),
+        "simplify" => Some(Mutation::Simplify),
+        "sortdeg" => Some(Mutation::SortByDegree),
+        _ => None,
+    }
+}
+
+/// As many changes as a number says: they put the vertices 1, 2 and so on into the first table.
+fn read_changes(alloc: Global, count: &str) -> Result<Option<ChangeList>, NoMemory> {
+    let Ok(count) = count.parse::<u32>() else {
+        return Ok(None);
+    };
+    let mut changes = ChangeList::new(alloc);
+    for key in 1..=count {
+        add_vertex(alloc, &mut changes, i64::from(key))?;
+    }
+    Ok(Some(changes))
+}
+
+fn add_vertex(alloc: Global, changes: &mut ChangeList, key: i64) -> Result<(), NoMemory> {
+    if changes.len() == u32::MAX {
+        return Err(NoMemory);
+    }
+    changes.add(Change::InsertVertex {
+        table: 0,
+        key,
+        values: List::new(alloc),
+    })
+}
+
+/// The call of `G changes N`.
+fn read_append(alloc: Global, text: &str) -> Result<Option<Ask>, NoMemory> {
+    let Some((name, count)) = text.split_once(" changes ") else {
+        return Ok(None);
+    };
+    let Some(changes) = read_changes(alloc, count)? else {
+        return Ok(None);
+    };
+    Ok(Some(Ask::Append {
+        name: Text::from_str(alloc, name)?,
+        changes,
     }))
 }
 

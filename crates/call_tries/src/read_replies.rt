@@ -1,6 +1,8 @@
 //! Replies and refusals from their names and values.
 use catalogue::{LineInfo, Refusal, Reply};
+use change_feed::RowCause;
 use column_types::{List, NoMemory, Text};
+use graph_model::Why;
 use std::alloc::Global;
 
 /// The reply that a text stands for, as `Sid 1`. None where it stands for none.
@@ -98,12 +100,17 @@ fn read_snaps(alloc: Global, words: &str) -> Result<List<(u64, u64)>, NoMemory> 
 pub fn read_refusal(alloc: Global, text: &str) -> Result<Option<Refusal>, NoMemory> {
     let (name, value) = text.split_once(' ').unwrap_or((text, ""));
     match name {
+        "TooBig" => Ok(Some(Refusal::TooBig)),
+        "BadRow" => Ok(read_bad_row(value)),
+        "BadChange" => Ok(read_bad_change(value)),
+        "KeysSpent" => Ok(Some(Refusal::KeysSpent)),
         "SessionsFull" => Ok(Some(Refusal::SessionsFull)),
         "GraphsFull" => Ok(Some(Refusal::GraphsFull)),
         "LinesFull" => Ok(Some(Refusal::LinesFull)),
         "NotOpen" => Ok(Some(Refusal::NotOpen)),
         "AlreadyOpen" => Ok(Some(Refusal::AlreadyOpen)),
         "NoSnapshot" => Ok(value.parse::<u64>().ok().map(Refusal::NoSnapshot)),
+        "NotLatest" => Ok(value.parse::<u64>().ok().map(Refusal::NotLatest)),
         "NotVisible" => Ok(value.parse::<u64>().ok().map(Refusal::NotVisible)),
         _ => read_named_refusal(name, Text::from_str(alloc, value)?),
     }
@@ -112,6 +119,7 @@ pub fn read_refusal(alloc: Global, text: &str) -> Result<Option<Refusal>, NoMemo
 /// The refusal of this name, whose value is a name.
 fn read_named_refusal(name: &str, value: Text) -> Result<Option<Refusal>, NoMemory> {
     match name {
+        "MixedEnds" => Ok(Some(Refusal::MixedEnds(value))),
         "NoSource" => Ok(Some(Refusal::NoSource(value))),
         "NameTaken" => Ok(Some(Refusal::NameTaken(value))),
         "NoName" => Ok(Some(Refusal::NoName(value))),
@@ -119,7 +127,47 @@ fn read_named_refusal(name: &str, value: Text) -> Result<Option<Refusal>, NoMemo
         "LineTaken" => Ok(Some(Refusal::LineTaken(value))),
         "NoLine" => Ok(Some(Refusal::NoLine(value))),
         "NotOwner" => Ok(Some(Refusal::NotOwner(value))),
+        "Sourced" => Ok(Some(Refusal::Sourced(value))),
         "NotPinned" => Ok(Some(Refusal::NotPinned(value))),
         _ => Ok(None),
+    }
+}
+
+/// The refusal of a row and its cause, as `3 count`.
+fn read_bad_row(values: &str) -> Option<Refusal> {
+    let (row, cause) = values.split_once(' ')?;
+    Some(Refusal::BadRow(row.parse().ok()?, read_cause(cause)?))
+}
+
+fn read_cause(word: &str) -> Option<RowCause> {
+    match word {
+        "utf8" => Some(RowCause::Utf8),
+        "word" => Some(RowCause::Word),
+        "table" => Some(RowCause::Table),
+        "count" => Some(RowCause::Count),
+        "prop" => Some(RowCause::Prop),
+        "field" => Some(RowCause::Field),
+        _ => None,
+    }
+}
+
+/// The refusal of a change at its place and its cause, as `2 KeyTaken`.
+fn read_bad_change(values: &str) -> Option<Refusal> {
+    let (place, why) = values.split_once(' ')?;
+    Some(Refusal::BadChange(place.parse().ok()?, read_why(why)?))
+}
+
+fn read_why(word: &str) -> Option<Why> {
+    match word {
+        "Table" => Some(Why::Table),
+        "Count" => Some(Why::Count),
+        "Prop" => Some(Why::Prop),
+        "Kind" => Some(Why::Kind),
+        "KeyTaken" => Some(Why::KeyTaken),
+        "KeyMissing" => Some(Why::KeyMissing),
+        "EndMissing" => Some(Why::EndMissing),
+        "HasEdges" => Some(Why::HasEdges),
+        "Limit" => Some(Why::Limit),
+        _ => None,
     }
 }

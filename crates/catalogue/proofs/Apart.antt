@@ -1,17 +1,17 @@
 -- The snapshots in use, with one more or one less.
-use Rattle.std.proofs.Common.{◌≡◌, ℕ, zero, suc, ◌+◌, ◌*◌, ◌^◌, ◌<◌, ◌≤◌, ◌⊎◌, inl, inr, List, [], ◌∷◌, ◌++◌, Option, Some, None, Bool, true, false, refl, sym, ap, subst, ◌∙◌, cond, arith, length, get_or, drop, append_assoc, length-append}
+use Rattle.std.proofs.Common.{◌≡◌, ℕ, zero, suc, ◌+◌, ◌*◌, ◌^◌, ◌<◌, ◌≤◌, ◌⊎◌, inl, inr, List, [], ◌∷◌, ◌++◌, Option, Some, None, Bool, true, false, refl, sym, ap, subst, ◌∙◌, cond, arith, length, get_or, drop, append_assoc, length-append, eqb}
 use Rattle.std.specs.Prelude.{Contains, find, flat_map, option_and_then}
 use Rattle.std.proofs.lemmas.Option.{none-some, same_Some}
 use Rattle.std.proofs.lemmas.List.Elements.{Contains-append_left, Contains-append_right, Contains-append_cases}
-use Rattle.catalogue.specs.declared.parts.Snap.{Snap}
-use Rattle.catalogue.specs.declared.parts.Line.{Line}
-use Rattle.catalogue.specs.declared.parts.Held.{Held}
-use Rattle.catalogue.specs.declared.parts.Session.{Session}
-use Rattle.catalogue.specs.State.{Name, State, of_who, named, held_of, change_first, drop_first, snaps_of, roots_of, roots}
-use Rattle.catalogue.specs.Step.{hold_more, let_go}
-use Rattle.catalogue.specs.Kept.{IsKept}
+use Rattle.catalogue_state.specs.declared.parts.Snap.{Snap}
+use Rattle.catalogue_state.specs.declared.parts.Line.{Line}
+use Rattle.catalogue_state.specs.declared.parts.Held.{Held}
+use Rattle.catalogue_state.specs.declared.parts.Session.{Session}
+use Rattle.catalogue_state.specs.State.{Name, State, of_who, named, held_of, change_first, drop_first, snaps_of, roots_of, roots}
+use Rattle.catalogue_state.specs.Step.{hold_more, let_go}
+use Rattle.catalogue.specs.Kept.{IsShort, IsKept}
 use Rattle.catalogue.specs.Registry.{Rows, uses, IsRegistry}
-use Rattle.catalogue.proofs.Lists.{Each, here, there, cases}
+use Rattle.catalogue_state.proofs.Lists.{Each, here, there, cases}
 use Rattle.catalogue.proofs.Uses.{uses_cons, uses_append, registry_same}
 
 -- a list of snapshots with one more, at some place
@@ -233,9 +233,16 @@ snaps_length : (held : List Held) → length (snaps_of held) ≡ length held
 snaps_length [] = refl
 snaps_length (h ∷ held) = ap suc (snaps_length held)
 
+few_at : (keep : ℕ) (b : Bool) → keep < 2 ^ 32 → cond {A = ℕ} b 1 keep ≤ 2 ^ 32
+few_at keep true lt = omega arith
+few_at keep false lt = omega (arith, lt)
+
+few_of : (l : Line) → IsShort l → length l.snaps ≤ 2 ^ 32
+few_of l is = omega (arith, is.few, few_at l.keep (eqb l.keep 0) is.keep)
+
 pub few_roots : (m : State) → IsKept m → length (roots m) < 2 ^ 48
 few_roots m kept =
-    let a = flat_few of_line (2 ^ 32) m.lines kept.few_snaps in
+    let a = flat_few of_line (2 ^ 32) m.lines (λ l h. few_of l (kept.few_snaps l h)) in
     let b = flat_few of_session 256 m.sessions (λ x h. subst (λ n. n ≤ 256) (sym (snaps_length x.held)) (kept.few_held x h)) in
     omega (arith, a, b, kept.few_lines, kept.few_sessions, length-append (flat_map of_line m.lines) (flat_map of_session m.sessions))
 

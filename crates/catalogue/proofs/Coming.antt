@@ -8,22 +8,19 @@ use Rattle.column_reclaim.specs.Registry.{times}
 use Rattle.graph_slots.specs.declared.part.Part.{Part}
 use Rattle.graph_slots.specs.declared.part.Part.TheVariants.{Rows as RowsOf}
 use Rattle.graph_snap.specs.Sharing.{graph_parts}
-use Rattle.catalogue.specs.declared.ask.How.{How}
-use Rattle.catalogue.specs.declared.ask.How.TheVariants.{Mutate}
-use Rattle.catalogue.specs.declared.ask.Mutation.TheVariants.{Clone}
-use Rattle.catalogue.specs.declared.parts.Snap.{Snap}
-use Rattle.catalogue.specs.declared.parts.Held.{Held}
-use Rattle.catalogue.specs.declared.parts.Session.{Session}
-use Rattle.catalogue.specs.State.{Name, State, of_who, named, session_of, held_of, roots}
-use Rattle.catalogue.specs.declared.parts.Source.{Source}
-use Rattle.catalogue.specs.Step.{placed, derived}
+use Rattle.catalogue_state.specs.declared.parts.Snap.{Snap}
+use Rattle.catalogue_state.specs.declared.parts.Held.{Held}
+use Rattle.catalogue_state.specs.declared.parts.Session.{Session}
+use Rattle.catalogue_state.specs.State.{Name, State, of_who, named, session_of, held_of, roots}
+use Rattle.catalogue_state.specs.declared.parts.Source.{Source}
+use Rattle.catalogue_state.specs.Step.{placed}
 use Rattle.catalogue.specs.Kept.{IsNumbered}
 use Rattle.graph_slots.specs.Slots.{slots}
 use Rattle.graph_slots.specs.Meaning.{slot_value}
 use Rattle.std.proofs.lemmas.List.{length-map}
 use Rattle.catalogue.specs.Registry.{part_in, Comes}
-use Rattle.catalogue.specs.Desk.{of_find}
-use Rattle.catalogue.proofs.Roots.{in_sessions}
+use Rattle.catalogue_state.proofs.Lists.{of_find}
+use Rattle.catalogue_state.proofs.Roots.{in_sessions}
 use Rattle.catalogue.proofs.Uses.{own_use}
 
 range_get : (a n k c : ℕ) → slice_get (range_with_len a n) k ≡ Some c → (k < n) × (a + k ≡ c)
@@ -65,7 +62,3 @@ all_kept rs first s b root columns shot = record {
 pub held_root : (m : State) (who : ℕ) (s : Session) (name : Name) (h : Held) → session_of m who ≡ Some s → held_of s name ≡ Some h → Contains (roots m) h.snap
 held_root m who s name h is has =
     in_sessions (Contains (roots m)) m.lines m.sessions (λ x k. k) s (of_find (of_who who) m.sessions s is) h (of_find (named name) s.held h has)
-
-pub clone_keeps : (m : State) (base : Snap) (how : How) (s : Snap) → Contains (roots m) base → s ≡ derived m base how → Comes (roots m) m.next_column s s.columns []
-clone_keeps m base (Mutate Clone) s root is =
-    all_kept (roots m) m.next_column s base root (ap (λ (x : Snap). x.columns) is) (ap (λ (x : Snap). x.shot) is)

@@ -1,23 +1,27 @@
 -- A graph that comes, and what is handed out for it.
-use Rattle.std.proofs.Common.{◌≡◌, ℕ, ◌++◌, List, [], ◌∷◌, Option, Some, None, Bool, true, false, refl, sym, ap, ◌∙◌, cond}
-use Rattle.std.specs.Prelude.{find, option_and_then}
+use Rattle.std.proofs.Common.{◌≡◌, ℕ, ◌++◌, List, [], ◌∷◌, Option, Some, None, Bool, true, false, Result, Ok, Err, refl, sym, ap, ◌∙◌, cond}
+use Rattle.std.specs.Prelude.{find, option_and_then, IfOk}
 use Rattle.std.specs.Str.{bytes_eq}
 use Rattle.std.proofs.lemmas.Slice.Eq.{bytes_eq-Decides}
 use Rattle.std.proofs.lemmas.Option.{none-some, same_Some}
-use Rattle.catalogue.specs.declared.ask.Ask.{Ask}
-use Rattle.catalogue.specs.declared.ask.How.{How}
-use Rattle.catalogue.specs.declared.ask.How.TheVariants.{Mutate}
-use Rattle.catalogue.specs.declared.ask.Mutation.TheVariants.{Clone}
-use Rattle.catalogue.specs.declared.reply.Reply.TheVariants.{Sid}
-use Rattle.catalogue.specs.declared.parts.Snap.{Snap}
-use Rattle.catalogue.specs.declared.parts.Held.{Held}
-use Rattle.catalogue.specs.declared.parts.Session.{Session}
+use Rattle.catalogue_state.specs.declared.ask.Ask.{Ask}
+use Rattle.catalogue_state.specs.declared.ask.Ask.TheVariants.{Peek}
+use Rattle.column_types.specs.declared.fault.NoMemory.{NoMemory}
+use Rattle.catalogue_state.specs.declared.call.Gift.TheVariants as gift
+use Rattle.catalogue_state.specs.declared.reply.Reply.TheVariants.{Sid, Refused}
+use Rattle.catalogue_state.specs.declared.reply.Refusal.{Refusal}
+use Rattle.catalogue_state.specs.declared.reply.Refusal.TheVariants.{NoSource}
+use Rattle.catalogue.specs.declared.response.Fault.{Fault}
+use Rattle.catalogue.specs.declared.response.Fault.TheVariants as fault
+use Rattle.catalogue_state.specs.declared.parts.Snap.{Snap}
+use Rattle.catalogue_state.specs.declared.parts.Held.{Held}
+use Rattle.catalogue_state.specs.declared.parts.Session.{Session}
 use Rattle.catalogue.specs.declared.response.Response.{Response}
-use Rattle.catalogue.specs.State.{Name, State, of_who, named, session_of, held_of, change_first}
-use Rattle.catalogue.specs.Step.{step, hold_more, private_graph, drawn, new_columns, with_session, move_to, to_snap}
-use Rattle.catalogue.specs.Gift.{gift_of, snap_gift, held_under}
+use Rattle.catalogue_state.specs.State.{Name, State, of_who, named, session_of, source_of, held_of, change_first}
+use Rattle.catalogue_state.specs.Step.{Answer, given, step, hold_more, private_graph, drawn, with_session, move_to, to_snap}
+use Rattle.catalogue_state.specs.Gift.{gift_of, snap_gift, held_under}
 use Rattle.catalogue.specs.Kept.{MayHold}
-use Rattle.catalogue.specs.Response.{IsServed, sid_response}
+use Rattle.catalogue.specs.Response.{IsServed, Tests, IsRefusal, TellsRefusal, refusal_response, sid_response}
 
 module _ {X : Type 0} (p : X → Bool) where
   -- the item that is found after it was changed, and after one more was put behind
@@ -87,5 +91,25 @@ pub came_served : (m : State) (who : ℕ) (ask : Ask) (name : Name) (h : Held) (
 came_served m who ask name h n r steps has gives told =
     rw told record { step = steps; kept = refl; gift = sym (gives n h.snap.sid ∙ ap snap_gift has) }
 
-pub none_new : (how : How) → 0 ≡ new_columns how
-none_new (Mutate Clone) = refl
+-- ---- refusals
+
+refusal_served : (m : State) (who : ℕ) (ask : Ask) (r : Refusal) (response : Response) → step m who ask ≡ (Refused r, m) → gift_of m who ask (Refused r) ≡ gift.Nothing
+    → response ≡ refusal_response r → IsServed m who ask m response
+refusal_served m who ask r response steps none told = rw told record { step = steps; kept = refl; gift = sym none }
+
+-- a call is served by the refusal that its tests end with
+pub refused_served : {X : Type 0} (m : State) (who : ℕ) (ask : Ask) (next : X → Answer) (f : Fault) (result : Result Response NoMemory) → ((r : Refusal) → gift_of m who ask (Refused r) ≡ gift.Nothing)
+    → Tests m (step m who ask) next (Err f) → TellsRefusal f result → IfOk result (IsServed m who ask m)
+refused_served m who ask next (fault.Refused r) (Ok response) gives tests told = refusal_served m who ask r response tests (gives r) told
+refused_served m who ask next (fault.Refused r) (Err e) gives tests told = tt
+refused_served m who ask next fault.NoMemory (Ok response) gives tests told = absurd told
+refused_served m who ask next fault.NoMemory (Err e) gives tests told = tt
+
+-- a peek at a source that is not there
+pub refused_peek : (m : State) (source : Name) (f : Fault) (result : Result Response NoMemory) → source_of m source ≡ None → IsRefusal (NoSource source) f → TellsRefusal f result
+    → IfOk result (λ r. (who : ℕ) → IsServed m who (Peek source) m r)
+unfolding given
+refused_peek m source (fault.Refused q) (Ok response) none is told = λ who. refusal_served m who (Peek source) (NoSource source) response (rw none refl) refl (told ∙ ap refusal_response is)
+refused_peek m source (fault.Refused q) (Err e) none is told = tt
+refused_peek m source fault.NoMemory (Ok response) none is told = absurd told
+refused_peek m source fault.NoMemory (Err e) none is told = tt

@@ -7,10 +7,10 @@ use Rattle.column_reclaim.specs.declared.row.RegistryRow.{RegistryRow}
 use Rattle.column_reclaim.specs.Registry.{Rises as RowsRise, IsListed, ids_of, row_of}
 use Rattle.column_reclaim.proofs.Finds.{counted_listed, listed_counted}
 use Rattle.graph_slots.specs.declared.part.Part.{Part}
-use Rattle.catalogue.specs.State.{State, columns_of, roots, reach}
+use Rattle.catalogue_state.specs.State.{State, columns_of, roots, reach}
 use Rattle.catalogue.specs.Registry.{Rows, IsRegistry}
-use Rattle.catalogue.proofs.Lists.{Each, here, there, cases, in_none}
-use Rattle.catalogue.proofs.Rising.{Rises, rises_put, reach_is_used}
+use Rattle.catalogue_state.proofs.Lists.{Each, here, there, cases, in_none}
+use Rattle.catalogue_state.proofs.Rising.{Rises, rises_put, reach_is_used}
 
 -- ---- two rising lists with the same members are one
 

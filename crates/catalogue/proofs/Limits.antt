@@ -1,21 +1,23 @@
 -- What the catalogue keeps, kept by each change of the state.
-use Rattle.std.proofs.Common.{◌≡◌, ℕ, ◌+◌, ◌^◌, ◌<◌, ◌≤◌, ◌++◌, List, [], ◌∷◌, Some, None, sym, ap, subst, arith, eqb, length, length-append, refl, find}
+use Rattle.std.proofs.Common.{◌≡◌, ℕ, ◌+◌, ◌^◌, ◌<◌, ◌≤◌, ◌++◌, List, [], ◌∷◌, Some, None, Bool, true, false, cond, sym, ap, subst, arith, eqb, length, length-append, refl, find, ◌-◌}
 use Rattle.std.specs.Prelude.{count_by, Contains}
 use Rattle.std.proofs.lemmas.Bool.{eqb-true}
+use Rattle.std.proofs.lemmas.Bool.Decides.{nat_tests}
+use Rattle.std.proofs.lemmas.List.{length-drop}
 use Rattle.std.proofs.lemmas.Slice.Eq.{bytes_eq-Decides}
-use Rattle.catalogue.specs.declared.parts.SourceData.{SourceData}
-use Rattle.catalogue.specs.declared.parts.Source.{Source}
-use Rattle.catalogue.specs.declared.parts.Snap.{Snap}
-use Rattle.catalogue.specs.declared.parts.Line.{Line}
-use Rattle.catalogue.specs.declared.parts.Held.{Held}
-use Rattle.catalogue.specs.declared.parts.Session.{Session}
-use Rattle.catalogue.specs.State.{Name, State, of_who, named, from_line, session_of, line_of, roots, change_first, drop_first}
-use Rattle.catalogue.specs.Step.{hold_more, let_go, with_session, with_one_more, drawn, published, pin_as, to_pin, to_snap, move_to, without_line}
-use Rattle.catalogue.specs.Bound.{opened, unfed}
-use Rattle.catalogue.specs.Kept.{IsNumbered, IsKept, MayHold}
-use Rattle.catalogue.proofs.Lists.{Each, each_none, each_cons, each_changed, each_found, each_dropped, each_push, each_map, length-change_first, length-drop_first}
-use Rattle.catalogue.proofs.Counts.{count_changed, count_dropped, one_more_each}
-use Rattle.catalogue.proofs.Roots.{InLines, InSessions, each_root, in_lines, in_sessions}
+use Rattle.catalogue_state.specs.declared.parts.SourceData.{SourceData}
+use Rattle.catalogue_state.specs.declared.parts.Source.{Source}
+use Rattle.catalogue_state.specs.declared.parts.Snap.{Snap}
+use Rattle.catalogue_state.specs.declared.parts.Line.{Line}
+use Rattle.catalogue_state.specs.declared.parts.Held.{Held}
+use Rattle.catalogue_state.specs.declared.parts.Session.{Session}
+use Rattle.catalogue_state.specs.State.{Name, State, of_who, named, from_line, session_of, line_of, roots, change_first, drop_first}
+use Rattle.catalogue_state.specs.Step.{hold_more, let_go, with_session, with_one_more, drawn, published, pin_as, to_pin, to_snap, move_to, without_line, kept_count, with_latest, appended}
+use Rattle.catalogue_state.specs.Bound.{opened, unfed}
+use Rattle.catalogue.specs.Kept.{IsNumbered, IsShort, IsKept, MayHold, MayAppend}
+use Rattle.catalogue_state.proofs.Lists.{Each, in_drop, each_none, each_cons, each_changed, each_found, each_dropped, each_push, each_map, length-change_first, length-drop_first}
+use Rattle.catalogue_state.proofs.Counts.{count_changed, count_dropped, one_more_each}
+use Rattle.catalogue_state.proofs.Roots.{InLines, InSessions, each_root, in_lines, in_sessions}
 
 abbrev IsFew : Session → Type 0
 IsFew s = length s.held ≤ 256
@@ -23,13 +25,21 @@ IsFew s = length s.held ≤ 256
 abbrev IsFull : Line → Type 0
 IsFull l = 1 ≤ length l.snaps
 
+-- a published graph keeps one snapshot at least
+one_kept_at : (keep : ℕ) (b : Bool) → eqb keep 0 ≡ b → 1 ≤ cond {A = ℕ} b 1 keep
+one_kept_at keep true e = omega arith
+one_kept_at keep false e = grind (arith, nat_tests)
+
+pub one_kept : (keep : ℕ) → 1 ≤ kept_count keep
+one_kept keep = one_kept_at keep (eqb keep 0) refl
+
 -- before any call
 pub opened_kept : (sources : List SourceData) → IsKept (opened sources)
 opened_kept sources = record {
   few_sessions = omega arith;
   one_each = λ who. omega arith;
   few_lines = omega arith;
-  few_snaps = each_none (λ (l : Line). length l.snaps ≤ 2 ^ 32);
+  few_snaps = each_none IsShort;
   full_lines = each_none IsFull;
   one_line = λ n. omega arith;
   few_held = each_none IsFew;
@@ -137,7 +147,7 @@ module _ (m : State) (who : ℕ) (kept : IsKept m) where
   -- the caller's session changes, with no more graphs than before and no snapshot but what was in use
   module _ (f : Session → Session) (same : (s : Session) → (f s).who ≡ s.who) (few : Each IsFew (change_first (of_who who) f m.sessions))
       (known : InSessions Known (change_first (of_who who) f m.sessions)) where
-    pub session_kept : (lines : List Line) → length lines ≤ 256 → Each (λ l. length l.snaps ≤ 2 ^ 32) lines → Each IsFull lines
+    pub session_kept : (lines : List Line) → length lines ≤ 256 → Each IsShort lines → Each IsFull lines
         → ((n : Name) → count_by (from_line n) lines ≤ 1) → InLines Known lines → IsKept (record (with_session m who f) { lines = lines })
     session_kept lines few_lines few_snaps full one ls = record {
       few_sessions = subst (λ n. n ≤ 64) (sym (length-change_first (of_who who) f m.sessions)) kept.few_sessions;
@@ -153,15 +163,15 @@ module _ (m : State) (who : ℕ) (kept : IsKept m) where
     }
 
   -- a private graph is published
-  pub published_kept : (name : Name) (l : Line) (b : Snap) → l.snaps ≡ b ∷ [] → Contains (roots m) b → line_of m l.name ≡ None → length m.lines < 256 → IsKept (published m who name l)
-  published_kept name l b is root free room =
+  pub published_kept : (name : Name) (l : Line) (b : Snap) → l.snaps ≡ b ∷ [] → l.keep < 2 ^ 32 → Contains (roots m) b → line_of m l.name ≡ None → length m.lines < 256 → IsKept (published m who name l)
+  published_kept name l b is keep root free room =
       session_kept (pin_as name l.name) (λ s. refl)
       (each_changed IsFew (of_who who) (pin_as name l.name) (λ s few. subst (λ n. n ≤ 256) (sym (length-change_first (named name) (to_pin l.name) s.held)) few) m.sessions kept.few_held)
       (each_changed (λ s. Each (λ h. Known h.snap) s.held) (of_who who) (pin_as name l.name)
       (λ s all. each_changed (λ h. Known h.snap) (named name) (to_pin l.name) (λ h k. k) s.held all) m.sessions known_sessions)
       (m.lines ++ l ∷ [])
       (omega (arith, room, length-append m.lines (l ∷ [])))
-      (each_push (λ x. length x.snaps ≤ 2 ^ 32) m.lines l kept.few_snaps (omega (arith, ap length is)))
+      (each_push IsShort m.lines l kept.few_snaps (record { few = omega (arith, ap length is, one_kept l.keep); keep = keep }))
       (each_push IsFull m.lines l kept.full_lines (omega (arith, ap length is)))
       (λ n. one_more_each (from_line n) m.lines l (kept.one_line n) (λ same. subst (λ x. find (from_line x) m.lines ≡ None) ((bytes_eq-Decides l.name n).0 same) free))
       (each_push (λ x. Each Known x.snaps) m.lines l known_lines (subst (Each Known) (sym is) (each_cons Known b [] (kept.numbered b root) (each_none Known))))
@@ -172,7 +182,7 @@ module _ (m : State) (who : ℕ) (kept : IsKept m) where
     few_sessions = kept.few_sessions;
     one_each = kept.one_each;
     few_lines = omega (arith, kept.few_lines, length-drop_first (from_line n) m.lines);
-    few_snaps = each_dropped (λ l. length l.snaps ≤ 2 ^ 32) (from_line n) m.lines kept.few_snaps;
+    few_snaps = each_dropped IsShort (from_line n) m.lines kept.few_snaps;
     full_lines = each_dropped IsFull (from_line n) m.lines kept.full_lines;
     one_line = λ k. omega (arith, kept.one_line k, count_dropped (from_line k) (from_line n) m.lines);
     few_held = kept.few_held;
@@ -197,3 +207,49 @@ module _ (m : State) (who : ℕ) (kept : IsKept m) where
       (each_changed (λ t. Each (λ x. Known x.snap) t.held) (of_who who) (move_to name b)
       (λ t all. each_changed (λ x. Known x.snap) (named name) (to_snap b) (λ x k. kept.numbered b root) t.held all) m.sessions known_sessions)
       m.lines kept.few_lines kept.few_snaps kept.full_lines kept.one_line known_lines
+
+-- ---- a published graph gets a snapshot more
+
+short_latest : (snap : Snap) (l : Line) → IsShort l → IsShort (with_latest snap l)
+short_latest snap l is = record {
+  few = omega (arith, length-drop (length (l.snaps ++ snap ∷ []) - kept_count l.keep) (l.snaps ++ snap ∷ []));
+  keep = is.keep;
+}
+
+full_latest : (snap : Snap) (l : Line) → IsFull l → IsFull (with_latest snap l)
+full_latest snap l is = omega (arith, length-drop (length (l.snaps ++ snap ∷ []) - kept_count l.keep) (l.snaps ++ snap ∷ []), length-append l.snaps (snap ∷ []), one_kept l.keep)
+
+each_latest : (P : Snap → Type 0) (snap : Snap) (l : Line) → P snap → Each P l.snaps → Each P (with_latest snap l).snaps
+each_latest P snap l new old b h = each_push P l.snaps snap old new b (in_drop _ (l.snaps ++ snap ∷ []) b h)
+
+module _ (m : State) (kept : IsKept m) (n : Name) (snap : Snap) (new : ℕ) (may : MayAppend m n snap new) where
+  abbrev After : Snap → Type 0
+  After b = IsNumbered (m.next_column + new) b
+
+  after_all : (b : Snap) → IsNumbered m.next_column b → After b
+  after_all b is = record {
+    wide = is.wide;
+    within = λ c i. let w = is.within c i in (w.0, omega (arith, w.1));
+    differ = is.differ;
+  }
+
+  after_lines : InLines After m.lines
+  after_lines l j b k = after_all b (in_lines (IsNumbered m.next_column) m.lines m.sessions kept.numbered l j b k)
+
+  after_sessions : InSessions After m.sessions
+  after_sessions s j h k = after_all h.snap (in_sessions (IsNumbered m.next_column) m.lines m.sessions kept.numbered s j h k)
+
+  pub appended_kept : IsKept (appended m n snap new)
+  appended_kept = record {
+    few_sessions = kept.few_sessions;
+    one_each = kept.one_each;
+    few_lines = subst (λ k. k ≤ 256) (sym (length-change_first (from_line n) (with_latest snap) m.lines)) kept.few_lines;
+    few_snaps = each_changed IsShort (from_line n) (with_latest snap) (short_latest snap) m.lines kept.few_snaps;
+    full_lines = each_changed IsFull (from_line n) (with_latest snap) (full_latest snap) m.lines kept.full_lines;
+    one_line = λ k. subst (λ i. i ≤ 1) (sym (count_changed (from_line k) (from_line n) (with_latest snap) (λ l. refl) m.lines)) (kept.one_line k);
+    few_held = kept.few_held;
+    first = omega (arith, kept.first);
+    numbered = each_root After (change_first (from_line n) (with_latest snap) m.lines) m.sessions
+        (each_changed (λ l. Each After l.snaps) (from_line n) (with_latest snap) (λ l all. each_latest After snap l may.numbered all) m.lines after_lines) after_sessions;
+    unfed = kept.unfed;
+  }

@@ -11,19 +11,14 @@ use Rattle.std.proofs.lemmas.List.FromFn.{length-range_with_len, map-range_with_
 use Rattle.graph_slots.specs.Slots.{slots}
 use Rattle.graph_model.specs.Graph.{GraphData}
 use Rattle.graph_model.specs.Change.{after}
-use Rattle.catalogue.specs.declared.ask.How.{How}
-use Rattle.catalogue.specs.declared.ask.How.TheVariants.{Mutate}
-use Rattle.catalogue.specs.declared.ask.Mutation.TheVariants.{Clone}
-use Rattle.catalogue.specs.declared.parts.Source.{Source}
-use Rattle.catalogue.specs.declared.parts.Snap.{Snap}
-use Rattle.catalogue.specs.declared.parts.Held.{Held}
-use Rattle.catalogue.specs.declared.parts.Session.{Session}
-use Rattle.catalogue.specs.State.{Name, State, of_who, named, session_of, held_of}
-use Rattle.catalogue.specs.Step.{placed, derived, new_columns}
+use Rattle.catalogue_state.specs.declared.parts.Source.{Source}
+use Rattle.catalogue_state.specs.declared.parts.Snap.{Snap}
+use Rattle.catalogue_state.specs.declared.parts.Held.{Held}
+use Rattle.catalogue_state.specs.declared.parts.Session.{Session}
+use Rattle.catalogue_state.specs.State.{Name, State, named, session_of, held_of}
+use Rattle.catalogue_state.specs.Step.{placed}
 use Rattle.catalogue.specs.Kept.{IsNumbered, IsKept, MayHold}
-use Rattle.catalogue.specs.Desk.{of_find}
-use Rattle.catalogue.proofs.Lists.{in_none, cases}
-use Rattle.catalogue.proofs.Roots.{in_sessions}
+use Rattle.catalogue_state.proofs.Lists.{in_none, cases}
 
 -- one number more
 pub range_more : (a n j : ℕ) → a + n ≡ j → range_with_len a (n + 1) ≡ range_with_len a n ++ j ∷ []
@@ -33,7 +28,7 @@ range_more a n j e =
 in_range_at : (a n c : ℕ) → (a + 1 ≤ c) × (c < a + 1 + n) → (a ≤ c) × (c < a + suc n)
 in_range_at a n c h = (omega arith, omega arith)
 
-in_range : (a n c : ℕ) → Contains (range_with_len a n) c → (a ≤ c) × (c < a + n)
+pub in_range : (a n c : ℕ) → Contains (range_with_len a n) c → (a ≤ c) × (c < a + n)
 in_range a zero c h = absurd (in_none c h)
 in_range a (suc n) c h =
     elim (cases c a (range_with_len (a + 1) n) h) [
@@ -44,7 +39,7 @@ in_range a (suc n) c h =
 abbrev times : ℕ → List ℕ → ℕ
 times c ns = count_by (λ k. k == c) ns
 
-none_below : (a n c : ℕ) → c < a → times c (range_with_len a n) ≡ 0
+pub none_below : (a n c : ℕ) → c < a → times c (range_with_len a n) ≡ 0
 none_below a zero c lt = refl
 none_below a (suc n) c lt =
     let other : eqb a c ≡ false = grind (arith, nat_tests) in
@@ -57,7 +52,7 @@ differs_at a n c true e ih =
     rw (e, none_below (a + 1) n c (omega (arith, same))) (omega arith)
 differs_at a n c false e ih = rw e (omega (arith, ih))
 
-range_differs : (a n c : ℕ) → times c (range_with_len a n) ≤ 1
+pub range_differs : (a n c : ℕ) → times c (range_with_len a n) ≤ 1
 range_differs a zero c = omega arith
 range_differs a (suc n) c =
     subst (λ k. k ≤ 1) (sym (sum_by-cons (λ k. cond {A = ℕ} (k == c) 1 0) a (range_with_len (a + 1) n))) (differs_at a n c (eqb a c) refl (range_differs (a + 1) n c))
@@ -99,25 +94,4 @@ module _ (m : State) (who : ℕ) (name : Name) (s : Session) (kept : IsKept m) (
     room = room;
     few = few;
     numbered = subst (λ b. IsNumbered (m.next_column + length b.columns) b) (sym q) (placed_numbered m from front kept.first);
-  }
-
-  derived_numbered : (base : Held) (how : How) → IsNumbered m.next_column base.snap → IsNumbered (m.next_column + new_columns how) (derived m base.snap how)
-  derived_numbered base (Mutate Clone) is = record {
-    wide = is.wide;
-    within = λ c i. let w = is.within c i in (w.0, omega (arith, w.1));
-    differ = is.differ;
-  }
-
-  few_derived : (how : How) → new_columns how ≤ 2208
-  few_derived (Mutate Clone) = omega arith
-
-  pub may_derive : (base : Name) (b : Held) (how : How) (snap : Snap) → held_of s base ≡ Some b → snap ≡ derived m b.snap how → MayHold m who name snap (new_columns how)
-  may_derive base b how snap found q = record {
-    session = s;
-    is = is;
-    free = nothing_found (held_of s name) free;
-    room = room;
-    few = few_derived how;
-    numbered = subst (λ x. IsNumbered (m.next_column + new_columns how) x) (sym q)
-        (derived_numbered b how (in_sessions (IsNumbered m.next_column) m.lines m.sessions kept.numbered s (of_find (of_who who) m.sessions s is) b (of_find (named base) s.held b found)));
   }

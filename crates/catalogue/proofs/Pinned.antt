@@ -1,21 +1,21 @@
 -- The snapshots in use, where a graph is published, held as a pin, moved or taken back.
-use Rattle.std.proofs.Common.{◌≡◌, ℕ, ◌+◌, ◌^◌, ◌<◌, ◌≤◌, inl, inr, List, [], ◌∷◌, ◌++◌, Option, Some, None, Bool, true, false, refl, sym, ap, subst, ◌∙◌, cond, arith, append_assoc}
+use Rattle.std.proofs.Common.{◌≡◌, ℕ, ◌+◌, ◌^◌, ◌<◌, ◌≤◌, inl, inr, List, [], ◌∷◌, ◌++◌, Some, Bool, true, false, refl, sym, ap, subst, ◌∙◌, cond, arith, append_assoc}
 use Rattle.std.specs.Prelude.{Contains, All, find, flat_map}
 use Rattle.std.proofs.lemmas.Option.{none-some, same_Some}
 use Rattle.std.proofs.lemmas.List.{append-nil}
 use Rattle.std.proofs.lemmas.List.Elements.{Contains-append_left, Contains-append_right, Contains-append_cases}
 use Rattle.column_reclaim.specs.Registry.{IsListed, times, raised}
-use Rattle.catalogue.specs.declared.parts.Snap.{Snap}
-use Rattle.catalogue.specs.declared.parts.Line.{Line}
-use Rattle.catalogue.specs.declared.parts.Held.{Held}
-use Rattle.catalogue.specs.declared.parts.Session.{Session}
-use Rattle.catalogue.specs.State.{Name, State, of_who, named, from_line, held_of, change_first, drop_first, snaps_of, roots_of, roots}
-use Rattle.catalogue.specs.Step.{to_pin, to_snap, pin_as, move_to}
+use Rattle.catalogue_state.specs.declared.parts.Snap.{Snap}
+use Rattle.catalogue_state.specs.declared.parts.Line.{Line}
+use Rattle.catalogue_state.specs.declared.parts.Held.{Held}
+use Rattle.catalogue_state.specs.declared.parts.Session.{Session}
+use Rattle.catalogue_state.specs.State.{Name, State, of_who, named, from_line, held_of, change_first, drop_first, snaps_of, roots_of, roots}
+use Rattle.catalogue_state.specs.Step.{to_pin, to_snap, pin_as, move_to}
 use Rattle.catalogue.specs.Kept.{IsKept}
 use Rattle.catalogue.specs.Registry.{Rows, uses, IsRegistry, Comes}
-use Rattle.catalogue.proofs.Lists.{here, there, cases}
+use Rattle.catalogue_state.proofs.Lists.{here, there, cases}
 use Rattle.catalogue.proofs.Uses.{uses_cons, uses_append, registry_same, kept_listed, kept_room, registry_come}
-use Rattle.catalogue.proofs.Apart.{IsWith, with_front, with_back, with_first, registry_in, few_roots, gone_uses, gone_in, of_line, of_session}
+use Rattle.catalogue.proofs.Apart.{IsWith, with_front, with_back, with_first, few_roots, gone_uses, gone_in, of_line, of_session}
 use Rattle.catalogue.proofs.Coming.{all_kept}
 
 -- ---- a snapshot in use is used once more

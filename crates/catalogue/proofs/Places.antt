@@ -8,7 +8,7 @@ use Rattle.std.proofs.lemmas.List.{length-set}
 use Rattle.std.proofs.lemmas.List.Quantifiers.{position-Some}
 use Rattle.std.proofs.lemmas.List.Sums.{fails_before_first}
 use Rattle.graph_model.proofs.Rows.{refill_same}
-use Rattle.catalogue.specs.State.{change_first, drop_first}
+use Rattle.catalogue_state.specs.State.{change_first, drop_first}
 
 module _ {X : Type 0} (p : X → Bool) where
   -- no item before a place passes

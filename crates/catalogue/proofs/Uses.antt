@@ -14,12 +14,12 @@ use Rattle.column_reclaim.proofs.Times.{times-cons, times_distinct}
 use Rattle.column_reclaim.proofs.Finds.{own_count, counted_listed, count_raised, item_raised, count_lowered, item_lowered, count_push, item_push}
 use Rattle.column_reclaim.proofs.Changes.{rises_raised, rises_lowered, counted_raised, counted_filter}
 use Rattle.graph_slots.specs.declared.part.Part.{Part}
-use Rattle.catalogue.specs.declared.parts.Snap.{Snap}
-use Rattle.catalogue.specs.State.{has_column}
+use Rattle.catalogue_state.specs.declared.parts.Snap.{Snap}
+use Rattle.catalogue_state.specs.State.{has_column}
 use Rattle.catalogue.specs.Kept.{IsNumbered}
 use Rattle.catalogue.specs.Registry.{Rows, part_in, uses, HasParts, IsRegistry, new_rows, IsKeptPart, IsNewPart, Comes}
-use Rattle.catalogue.proofs.Lists.{Each, here, there, cases, in_none, each_rest}
-use Rattle.catalogue.proofs.Rising.{column_in, column_found}
+use Rattle.catalogue_state.proofs.Lists.{Each, here, there, cases, in_none, each_rest}
+use Rattle.catalogue_state.proofs.Rising.{column_in, column_found}
 
 -- ---- how many snapshots have a column
 
@@ -75,7 +75,7 @@ times_in_at : (c x : ℕ) (xs : List ℕ) → (x ≡ c) ⊎ Contains xs c → (C
 times_in_at c x xs (inl q) ih = let e : eqb x c ≡ true = eq-eqb x c q in rw e (omega arith)
 times_in_at c x xs (inr h) ih = omega (arith, ih h)
 
-times_in : (c : ℕ) (xs : List ℕ) → Contains xs c → 0 < times c xs
+pub times_in : (c : ℕ) (xs : List ℕ) → Contains xs c → 0 < times c xs
 times_in c [] h = absurd (in_none c h)
 times_in c (x ∷ xs) h = subst (λ n. 0 < n) (sym (times-cons c x xs)) (times_in_at c x xs (cases c x xs h) (times_in c xs))
 

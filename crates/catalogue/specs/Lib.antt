@@ -1,9 +1,11 @@
-pub mod State
-pub mod Step
-pub mod Gift
-pub mod Bound
+pub use Rattle.catalogue_state.specs.State
+pub use Rattle.catalogue_state.specs.Derived
+pub use Rattle.catalogue_state.specs.Step
+pub use Rattle.catalogue_state.specs.Gift
+pub use Rattle.catalogue_state.specs.Bound
+pub use Rattle.catalogue_state.specs.Ready
+pub use Rattle.catalogue_state.specs.Law
 pub mod Kept
 pub mod Registry
+pub mod Coming
 pub mod Response
-pub mod Desk
-pub mod Law

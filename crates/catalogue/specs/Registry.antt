@@ -6,8 +6,8 @@ use Rattle.column_reclaim.specs.Registry.{Rises, times, count_of, item_of}
 use Rattle.graph_model.specs.Graph.{GraphData}
 use Rattle.graph_slots.specs.declared.part.Part.{Part}
 use Rattle.graph_snap.specs.Sharing.{graph_parts}
-use Rattle.catalogue.specs.declared.parts.Snap.{Snap}
-use Rattle.catalogue.specs.State.{has_column}
+use Rattle.catalogue_state.specs.declared.parts.Snap.{Snap}
+use Rattle.catalogue_state.specs.State.{has_column}
 
 -- a part under each number
 abbrev pub Rows : Type 0

@@ -1,20 +1,36 @@
 -- How a call ends.
-use Rattle.std.specs.Prelude.{◌≡◌, ℕ, Result, Ok, Err, ⊤}
+use Rattle.std.specs.Prelude.{◌≡◌, ℕ, Bool, true, false, Result, Ok, Err, ⊤}
 use Rattle.column_types.specs.declared.fault.NoMemory.{NoMemory}
-use Rattle.catalogue.specs.declared.ask.Ask.{Ask}
-use Rattle.catalogue.specs.declared.ask.Ask.TheVariants.{OpenSession, CloseSession, Peek, Place, Derive, Publish, Unpublish, Get, Checkout, Release, Columns as ListColumns, Lines as ListLines}
-use Rattle.catalogue.specs.declared.call.Gift.TheVariants as gift
-use Rattle.catalogue.specs.declared.reply.Reply.{Reply}
-use Rattle.catalogue.specs.declared.reply.Reply.TheVariants.{Done, Front, Sid, Columns, Lines, Refused}
-use Rattle.catalogue.specs.declared.reply.Refusal.{Refusal}
-use Rattle.catalogue.specs.declared.reply.Refusal.TheVariants.{SessionsFull, NoSource, NameTaken, GraphsFull, NoName, NotPrivate, LineTaken, LinesFull, NoLine, NotOwner, NoSnapshot, NotVisible, NotPinned, NotOpen, AlreadyOpen}
+use Rattle.catalogue_state.specs.declared.ask.Ask.{Ask}
+use Rattle.catalogue_state.specs.declared.ask.Ask.TheVariants.{OpenSession, CloseSession, Peek, Place, Derive, Publish, Unpublish, Get, Checkout, Append, Release, Columns as ListColumns, Lines as ListLines}
+use Rattle.catalogue_state.specs.declared.call.Gift.TheVariants as gift
+use Rattle.catalogue_state.specs.declared.reply.Reply.{Reply}
+use Rattle.catalogue_state.specs.declared.reply.Reply.TheVariants.{Done, Front, Sid, Columns, Lines, Refused}
+use Rattle.catalogue_state.specs.declared.reply.Refusal.{Refusal}
+use Rattle.catalogue_state.specs.declared.reply.Refusal.TheVariants.{TooBig, BadRow, BadChange, MixedEnds, KeysSpent, SessionsFull, NoSource, NameTaken, GraphsFull, NoName, NotPrivate, LineTaken, LinesFull, NoLine, NotOwner, NoSnapshot, Sourced, NotLatest, NotVisible, NotPinned, NotOpen, AlreadyOpen}
 use Rattle.catalogue.specs.declared.response.Fault.{Fault}
 use Rattle.catalogue.specs.declared.response.Fault.TheVariants as fault
 use Rattle.catalogue.specs.declared.response.Response.{Response}
-use Rattle.catalogue.specs.declared.parts.Snap.{Snap}
-use Rattle.catalogue.specs.State.{State}
-use Rattle.catalogue.specs.Step.{Answer, step}
-use Rattle.catalogue.specs.Gift.{gift_of}
+use Rattle.catalogue_state.specs.declared.parts.Snap.{Snap}
+use Rattle.catalogue_state.specs.State.{State}
+use Rattle.catalogue_state.specs.Step.{Answer, step}
+use Rattle.catalogue_state.specs.Gift.{gift_of}
+
+-- whether a call derives a snapshot from another one: it comes with what was built from that
+unfoldable pub is_derived : Ask → Bool
+is_derived OpenSession = false
+is_derived CloseSession = false
+is_derived (Peek source) = false
+is_derived (Place name source front) = false
+is_derived (Derive name base how) = true
+is_derived (Publish name line keep threshold) = false
+is_derived (Unpublish line) = false
+is_derived (Get line name) = false
+is_derived (Checkout name target) = false
+is_derived (Append name changes) = true
+is_derived (Release name) = false
+is_derived ListColumns = false
+is_derived ListLines = false
 
 -- the response of a call is the step's: its reply twice, and what is handed out, read from the state after it
 pub record IsServed (old : State) (who : ℕ) (ask : Ask) (new : State) (r : Response) : Type 0 where
@@ -29,11 +45,19 @@ done_response = record { kept = Done; reply = Done; gift = gift.Nothing }
 abbrev pub refusal_response : Refusal → Response
 refusal_response r = record { kept = Refused r; reply = Refused r; gift = gift.Nothing }
 
+abbrev pub told_response : ℕ → Response
+told_response sid = record { kept = Sid sid; reply = Sid sid; gift = gift.Nothing }
+
 abbrev pub sid_response : Snap → Response
 sid_response snap = record { kept = Sid snap.sid; reply = Sid snap.sid; gift = gift.Snap snap }
 
 -- a refusal takes memory where it hands on a name
 abbrev pub RefusalTakesMemory : Refusal → Type 0
+RefusalTakesMemory TooBig = ⊥
+RefusalTakesMemory (BadRow row cause) = ⊥
+RefusalTakesMemory (BadChange place why) = ⊥
+RefusalTakesMemory (MixedEnds name) = ⊤
+RefusalTakesMemory KeysSpent = ⊥
 RefusalTakesMemory SessionsFull = ⊥
 RefusalTakesMemory (NoSource name) = ⊤
 RefusalTakesMemory (NameTaken name) = ⊤
@@ -45,6 +69,8 @@ RefusalTakesMemory LinesFull = ⊥
 RefusalTakesMemory (NoLine name) = ⊤
 RefusalTakesMemory (NotOwner name) = ⊤
 RefusalTakesMemory (NoSnapshot n) = ⊥
+RefusalTakesMemory (Sourced name) = ⊤
+RefusalTakesMemory (NotLatest n) = ⊥
 RefusalTakesMemory (NotVisible n) = ⊥
 RefusalTakesMemory (NotPinned name) = ⊤
 RefusalTakesMemory NotOpen = ⊥
@@ -96,6 +122,7 @@ GivesUp (Publish name line keep threshold) = ⊥
 GivesUp (Unpublish line) = ⊤
 GivesUp (Get line name) = ⊥
 GivesUp (Checkout name target) = ⊥
+GivesUp (Append name changes) = ⊥
 GivesUp (Release name) = ⊤
 GivesUp ListColumns = ⊥
 GivesUp ListLines = ⊥

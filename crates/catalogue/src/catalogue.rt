@@ -3,26 +3,26 @@ ghost use Rattle.std.specs.Prelude.{◌≡◌, ℕ, ◌+◌, ◌≤◌, ◌<◌,
 ghost use Rattle.std.specs.Option.{option_copied};
 ghost use Rattle.std.specs.List.{All, range_with_len};
 ghost use Rattle.graph_slots.specs.Slots.{slots};
-ghost use Rattle.catalogue.specs.declared.ask.Ask.{Ask};
-ghost use Rattle.catalogue.specs.declared.parts.Session.{Session as SessionData};
-ghost use Rattle.catalogue.specs.declared.reply.Reply.TheVariants.{Sid, Done};
-ghost use Rattle.catalogue.specs.State.{named, of_who, session_of, source_of, line_of, change_first, roots, drop_first, reach, count};
-ghost use Rattle.catalogue.specs.Step.{step, hold_more, let_go, placed, derived, new_columns, private_graph, drawn, with_one_more, without_session, with_session};
-ghost use Rattle.catalogue.specs.Bound.{unfed, opened, HasSmall, IsReady, NamesDiffer};
+ghost use Rattle.catalogue_state.specs.declared.ask.Ask.{Ask};
+ghost use Rattle.catalogue_state.specs.declared.parts.Session.{Session as SessionData};
+ghost use Rattle.catalogue_state.specs.declared.reply.Reply.TheVariants.{Sid, Done};
+ghost use Rattle.catalogue_state.specs.State.{named, of_who, session_of, source_of, line_of, holds, change_first, roots, drop_first, reach, count};
+ghost use Rattle.catalogue_state.specs.Step.{step, hold_more, let_go, placed, private_graph, drawn, with_one_more, without_session, with_session};
+ghost use Rattle.catalogue_state.specs.Bound.{unfed, opened, HasSmall, IsReady, NamesDiffer};
+ghost use Rattle.catalogue_state.specs.Ready.{IsMadeFor};
 ghost use Rattle.catalogue.specs.Kept.{IsKept, MayHold};
 ghost use Rattle.column_reclaim.specs.Registry.{ids_of, count_of};
-ghost use Rattle.catalogue.specs.declared.parts.Snap.{Snap as SnapData};
+ghost use Rattle.catalogue_state.specs.declared.parts.Snap.{Snap as SnapData};
 ghost use Rattle.catalogue.specs.Registry.{Comes, HasParts};
 ghost use Rattle.catalogue.specs.Response.{IsServed, RunsOut, Tests, TestsSurely, sid_response};
 
+use crate::arrivals::Coming;
 use crate::columns::{count_columns, listed, release_graphs, release_snap, shared_parts};
 use crate::lines::Lines;
 use crate::response::{Fault, Response, came, done, name_taken, no_name, no_source, refused};
 use crate::sessions::{Sessions, held_as};
 use crate::sources::Sources;
-use crate::{
-    Gift, Held, Hold, How, Line, Mutation, Refusal, Reply, Session, Snap, Source, SourceData,
-};
+use crate::{Gift, Held, Hold, How, Line, Made, Refusal, Reply, Session, Snap, Source, SourceData};
 use column_reclaim::{Registry, RegistryRow};
 use column_types::{List, NoMemory, Shared, Text};
 use graph_slots::Part;
@@ -47,8 +47,8 @@ pub struct Catalogue {
 }
 
 impl Model for Catalogue {
-    ghost use Rattle.catalogue.specs.State.{State};
-    ghost use Rattle.catalogue.specs.State.{roots_of};
+    ghost use Rattle.catalogue_state.specs.State.{State};
+    ghost use Rattle.catalogue_state.specs.State.{roots_of};
     ghost use Rattle.catalogue.specs.Kept.{IsKept};
     ghost use Rattle.catalogue.specs.Registry.{IsRegistry};
 
@@ -145,7 +145,7 @@ impl Catalogue {
 
     // ---- sessions
 
-    #[tactic(auto, unfolding(crate::specs::Step::unless))]
+    #[tactic(auto, unfolding(catalogue_state::specs::Step::unless))]
     fn test_open(&self, who: u32) -> Result<(), Refusal>
         ensures room { OnOk result (length self.now.sessions < 64) }
         ensures new { OnOk result (session_of self.now who ≡ None) }
@@ -174,7 +174,7 @@ impl Catalogue {
         }
     }
 
-    #[tactic(auto, unfolding(crate::specs::Step::given))]
+    #[tactic(auto, unfolding(catalogue_state::specs::Step::given))]
     fn test_close(&self, who: u32) -> Result<(), Refusal>
         ensures { TestsSurely self.now (step self.now who Ask.CloseSession) (λ _. (Done, without_session self.now who)) result }
     {
@@ -202,7 +202,7 @@ impl Catalogue {
 
     // ---- sources
 
-    #[tactic(auto, unfolding(crate::specs::Step::given))]
+    #[tactic(auto, unfolding(catalogue_state::specs::Step::given))]
     pub(crate) fn peek(&self, alloc: Global, source: &Text) -> Result<Response, NoMemory>
         ensures ok { IfOk result (λ r. (who : ℕ) → IsServed self.now who (Ask.Peek source.now) self.now r) }
         ensures surely { OnErr result ((who : ℕ) → RunsOut self.now who (Ask.Peek source.now)) }
@@ -241,7 +241,7 @@ impl Catalogue {
     }
 
     /// Tests whether a graph may be placed, and makes its snapshot.
-    #[tactic(auto, unfolding(crate::specs::Step::given, crate::specs::Step::unless))]
+    #[tactic(auto, unfolding(catalogue_state::specs::Step::given, catalogue_state::specs::Step::unless))]
     fn snap_to_place(
         &self,
         alloc: Global,
@@ -274,22 +274,8 @@ impl Catalogue {
         Ok(self.placed(alloc, from, front)?)
     }
 
-    /// A snapshot derived from another: a clone shares all its columns.
-    fn derived(&self, alloc: Global, base: &Snap, how: &How) -> Result<Snap, NoMemory>
-        ensures { IfOk result (λ snap. snap ≡ derived self.now base.now how.now) }
-    {
-        match how {
-            How::Mutate(Mutation::Clone) => Ok(Snap {
-                sid: self.next_sid,
-                front: 0,
-                shot: base.shot.share(alloc)?,
-                columns: List::from_slice(alloc, base.columns.as_slice())?,
-            }),
-        }
-    }
-
-    /// Tests whether a graph may be derived, and makes its snapshot.
-    #[tactic(auto, unfolding(crate::specs::Step::given, crate::specs::Step::unless))]
+    /// Tests whether a graph may be derived, and makes its snapshot of what was built.
+    #[tactic(auto, unfolding(catalogue_state::specs::Step::given, catalogue_state::specs::Step::unless, catalogue_state::specs::Step::unless_refused))]
     fn snap_to_derive(
         &self,
         alloc: Global,
@@ -297,10 +283,13 @@ impl Catalogue {
         name: &Text,
         base: &Text,
         how: &How,
-    ) -> Result<Snap, Fault>
-        ensures tests { Tests self.now (step self.now who (Ask.Derive name.now base.now how.now)) (λ snap. (Sid snap.sid, drawn self.now who (private_graph name.now None snap) (new_columns how.now))) result }
-        ensures may { IfOk result (λ snap. MayHold self.now who name.now snap (new_columns how.now)) }
-        ensures comes { IfOk result (λ snap. Comes (roots self.now) self.now.next_column snap snap.columns []) }
+        made: Made,
+    ) -> Result<Coming, Fault>
+        requires ready { IsReady self.now }
+        requires made { IsMadeFor (holds self.now who) (Ask.Derive name.now base.now how.now) made }
+        ensures tests { Tests self.now (step self.now who (Ask.Derive name.now base.now how.now)) (λ c. (Sid c.snap.sid, drawn self.now who (private_graph name.now None c.snap) (length c.new))) result }
+        ensures may { IfOk result (λ c. MayHold self.now who name.now c.snap (length c.new)) }
+        ensures comes { IfOk result (λ c. Comes (roots self.now) self.now.next_column c.snap c.kept c.new) }
     {
         self.sound();
         let Some(session) = self.session(who) else {
@@ -315,7 +304,7 @@ impl Catalogue {
         if session.held.len() >= MOST_HELD {
             return Err(Fault::Refused(Refusal::GraphsFull));
         }
-        Ok(self.derived(alloc, graph.snap.get(), how)?)
+        self.coming(alloc, graph.snap.get(), made)
     }
 
     /// The session of the caller holds one more graph. Its snapshot keeps some columns of others, and has new parts.
@@ -372,17 +361,20 @@ impl Catalogue {
         name: &Text,
         base: &Text,
         how: &How,
+        made: Made,
     ) -> Result<Response, NoMemory>
-        requires { IsReady self.old }
+        requires ready { IsReady self.old }
+        requires made { IsMadeFor (holds self.old who) (Ask.Derive name.now base.now how.now) made }
         ensures ok { IfOk result (IsServed self.old who (Ask.Derive name.now base.now how.now) self.new) }
         ensures err { OnErr result (self.new ≡ self.old) }
         ensures surely { OnErr result (RunsOut self.old who (Ask.Derive name.now base.now how.now)) }
     {
-        match self.snap_to_derive(alloc, who, name, base, how) {
-            Ok(snap) => {
-                let kept = List::from_slice(alloc, snap.columns.as_slice())?;
-                let held = private(alloc, name, None, snap)?;
-                self.draw(who, held, kept.as_slice(), List::new(alloc))
+        match self.snap_to_derive(alloc, who, name, base, how, made) {
+            Ok(coming) => {
+                let new = coming.new;
+                let kept = coming.kept;
+                let held = private(alloc, name, None, coming.snap)?;
+                self.draw(who, held, kept.as_slice(), new)
             }
             Err(fault) => refused(fault),
         }
@@ -390,7 +382,7 @@ impl Catalogue {
 
     // ---- graphs that go
 
-    #[tactic(auto, unfolding(crate::specs::Step::given))]
+    #[tactic(auto, unfolding(catalogue_state::specs::Step::given))]
     fn test_release(&self, alloc: Global, who: u32, name: &Text) -> Result<(), Fault>
         ensures { Tests self.now (step self.now who (Ask.Release name.now)) (λ _. (Done, with_session self.now who (let_go name.now))) result }
     {

@@ -2,7 +2,8 @@
 ghost use Rattle.std.specs.Prelude.{◌≡◌, ◌+◌, ◌<◌, ◌≤◌, ◌^◌, ◌++◌, [], ◌∷◌, All, IfOk, length};
 ghost use Rattle.column_reclaim.specs.Registry.{IsListed, times, raised, ids_of};
 ghost use Rattle.graph_snap.specs.Sharing.{graph_parts};
-ghost use Rattle.catalogue.specs.State.{snaps_of};
+ghost use Rattle.catalogue_state.specs.State.{snaps_of};
+ghost use Rattle.catalogue.specs.Kept.{option_to_list};
 ghost use Rattle.catalogue.specs.Registry.{new_rows, AreCounted, AreReleased};
 
 use crate::{Held, Snap};
@@ -71,6 +72,16 @@ pub(crate) fn release_snap(registry: &mut Registry<Part>, snap: &Snap)
     ensures { AreReleased registry.old.rows (snap.now ∷ []) registry.new.rows }
 {
     registry.release(snap.columns.as_slice());
+}
+
+/// Gives up the columns of a snapshot, where one goes. It takes no memory.
+pub(crate) fn release_gone(registry: &mut Registry<Part>, gone: Option<Shared<Snap>>)
+    requires { AreCounted registry.old.rows (option_to_list gone) }
+    ensures { AreReleased registry.old.rows (option_to_list gone) registry.new.rows }
+{
+    if let Some(snap) = gone {
+        release_snap(registry, snap.get());
+    }
 }
 
 /// Gives up the columns of graphs that go. It takes no memory.

@@ -1,8 +1,10 @@
 //! The published graphs, by their names.
-ghost use Rattle.std.specs.Prelude.{◌≡◌, ◌≤◌, ◌++◌, [], ◌∷◌, IfOk, OnOk, OnErr, length, map, find, position};
+ghost use Rattle.std.specs.Prelude.{◌≡◌, ◌≤◌, ◌++◌, [], ◌∷◌, IfOk, OnOk, OnErr, Contains, length, map, find, position};
 ghost use Rattle.std.specs.Option.{option_copied};
-ghost use Rattle.catalogue.specs.State.{from_line, of_sid, snap_at, drop_first};
-ghost use Rattle.catalogue.specs.Step.{snap_info, line_info};
+ghost use Rattle.catalogue_state.specs.declared.parts.Line.{Line as LineData};
+ghost use Rattle.catalogue_state.specs.State.{from_line, of_sid, snap_at, drop_first, change_first};
+ghost use Rattle.catalogue_state.specs.Step.{snap_info, line_info, kept_count, with_latest};
+ghost use Rattle.catalogue.specs.Kept.{IsShort, option_to_list, gone_of, gone_in};
 
 use crate::{Line, LineInfo, Snap, Target};
 use column_types::{List, NoMemory, Shared, Text};
@@ -17,7 +19,7 @@ pub(crate) struct Lines {
 
 impl Model for Lines {
     ghost use Rattle.std.specs.Prelude.{List as Items};
-    ghost use Rattle.catalogue.specs.declared.parts.Line.{Line as ALine};
+    ghost use Rattle.catalogue_state.specs.declared.parts.Line.{Line as ALine};
 
     ghost Value = { Items ALine };
 
@@ -41,6 +43,44 @@ fn drop_line(lines: &mut List<Line>, name: &Text) -> Option<Line>
     match line_place(lines.as_slice(), name) {
         Some(place) => Some(lines.remove(place as u32)),
         None => None,
+    }
+}
+
+/// How many snapshots a published graph keeps.
+fn kept_count(keep: u32) -> usize
+    ensures { result ≡ kept_count keep }
+{
+    if keep == 0 { 1 } else { keep as usize }
+}
+
+/// One snapshot more. Where there are then more than are kept, the oldest goes, and is handed out.
+fn add_snap(line: &mut Line, snap: Shared<Snap>) -> Result<Option<Shared<Snap>>, NoMemory>
+    requires { IsShort line.old }
+    ensures ok { OnOk result (line.new ≡ with_latest snap line.old) }
+    ensures gone { IfOk result (λ gone. option_to_list gone ≡ gone_of snap line.old) }
+    ensures err { OnErr result (line.new ≡ line.old) }
+{
+    line.snaps.push(snap)?;
+    if line.snaps.len() <= kept_count(line.keep) {
+        return Ok(None);
+    }
+    Ok(Some(line.snaps.remove(0)))
+}
+
+/// One snapshot more of the published graph of that name.
+fn add_to_line(
+    lines: &mut List<Line>,
+    name: &Text,
+    snap: Shared<Snap>,
+) -> Result<Option<Shared<Snap>>, NoMemory>
+    requires { (l : LineData) → Contains lines.old l → IsShort l }
+    ensures ok { OnOk result (lines.new ≡ change_first (from_line name.now) (with_latest snap) lines.old) }
+    ensures gone { IfOk result (λ gone. option_to_list gone ≡ gone_in snap (find (from_line name.now) lines.old)) }
+    ensures err { OnErr result (lines.new ≡ lines.old) }
+{
+    match line_place(lines.as_slice(), name) {
+        Some(place) => add_snap(&mut lines.as_mut_slice()[place], snap),
+        None => Ok(None),
     }
 }
 
@@ -131,6 +171,20 @@ impl Lines {
         ensures rest { self.new ≡ drop_first (from_line name.now) self.old }
     {
         drop_line(&mut self.published, name)
+    }
+
+    /// One snapshot more of the published graph of that name. Where it then has more than it keeps, its oldest goes, and is handed out.
+    pub(crate) fn append(
+        &mut self,
+        name: &Text,
+        snap: Shared<Snap>,
+    ) -> Result<Option<Shared<Snap>>, NoMemory>
+        requires { (l : LineData) → Contains self.old l → IsShort l }
+        ensures ok { OnOk result (self.new ≡ change_first (from_line name.now) (with_latest snap) self.old) }
+        ensures gone { IfOk result (λ gone. option_to_list gone ≡ gone_in snap (find (from_line name.now) self.old)) }
+        ensures err { OnErr result (self.new ≡ self.old) }
+    {
+        add_to_line(&mut self.published, name, snap)
     }
 
     /// What is told of all published graphs.

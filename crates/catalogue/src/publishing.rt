@@ -1,22 +1,30 @@
 //! Published graphs: they are published by one session, and others hold pins of their snapshots.
-ghost use Rattle.std.specs.Prelude.{◌≡◌, ℕ, IfOk, OnOk, OnErr, Some, length};
+ghost use Rattle.std.specs.Prelude.{◌≡◌, ℕ, IfOk, OnOk, OnErr, Some, Contains, find, length};
 ghost use Rattle.std.specs.Option.{option_copied};
-ghost use Rattle.catalogue.specs.declared.ask.Ask.{Ask};
-ghost use Rattle.catalogue.specs.declared.reply.Reply.TheVariants.{Sid, Done};
-ghost use Rattle.catalogue.specs.State.{roots};
-ghost use Rattle.catalogue.specs.Step.{step, hold_more, with_session, move_to, published, without_line, pin, new_line, sid_asked};
-ghost use Rattle.catalogue.specs.Kept.{MayPublish, MayPin, MayMove};
+ghost use Rattle.catalogue_state.specs.declared.ask.Ask.{Ask};
+ghost use Rattle.catalogue_state.specs.declared.reply.Reply.TheVariants.{Sid, Done};
+ghost use Rattle.catalogue_state.specs.declared.ask.How.TheVariants.{Changes};
+ghost use Rattle.catalogue_state.specs.State.{roots, holds, named, line_of};
+ghost use Rattle.catalogue_state.specs.Derived.{IsBuilt};
+ghost use Rattle.catalogue_state.specs.Step.{step, hold_more, with_session, move_to, published, without_line, appended, pin, new_line, sid_asked};
+ghost use Rattle.catalogue_state.specs.Bound.{IsReady};
+ghost use Rattle.catalogue_state.specs.Ready.{IsMadeFor};
+ghost use Rattle.catalogue.specs.Kept.{MayPublish, MayPin, MayMove, MayAppend};
+ghost use Rattle.catalogue.specs.Registry.{Comes};
+ghost use Rattle.catalogue.specs.Coming.{Arrives, append_to};
 ghost use Rattle.catalogue.specs.Response.{IsServed, RunsOut, Tests, sid_response};
 
+use crate::arrivals::Coming;
 use crate::catalogue::MOST_HELD;
-use crate::columns::{release_snap, release_snaps, retain_snap};
+use crate::columns::{count_columns, release_gone, release_snap, release_snaps, retain_snap};
 use crate::lines::snap_asked;
 use crate::response::{
     Fault, Response, came, done, line_taken, name_taken, no_line, no_name, not_owner, not_pinned,
-    not_private, refused,
+    not_private, refused, sourced, told,
 };
 use crate::sessions::held_as;
-use crate::{Catalogue, Gift, Held, Hold, Line, Refusal, Reply, Snap, Target};
+use crate::{Catalogue, Gift, Held, Hold, Line, Made, Refusal, Reply, Snap, Target};
+use changeset::ChangeList;
 use column_types::{List, NoMemory, Shared, Text};
 use std::alloc::Global;
 
@@ -81,7 +89,7 @@ impl Catalogue {
     // ---- publish
 
     /// Tests whether a graph may be published, and makes the published graph. Its snapshot comes beside it.
-    #[tactic(auto, unfolding(crate::specs::Step::given, crate::specs::Step::unless))]
+    #[tactic(auto, unfolding(catalogue_state::specs::Step::given, catalogue_state::specs::Step::unless))]
     fn line_to_publish(
         &self,
         alloc: Global,
@@ -153,11 +161,7 @@ impl Catalogue {
                 let pin = Text::from_str(alloc, line.as_str())?;
                 let sid = snap.get().sid;
                 self.add_line(who, name, pin, made, snap.get())?;
-                Ok(Response {
-                    kept: Reply::Sid(sid),
-                    reply: Reply::Sid(sid),
-                    gift: Gift::Nothing,
-                })
+                Ok(told(sid))
             }
             Err(fault) => refused(fault),
         }
@@ -165,7 +169,7 @@ impl Catalogue {
 
     // ---- take back
 
-    #[tactic(auto, unfolding(crate::specs::Step::given, crate::specs::Step::unless))]
+    #[tactic(auto, unfolding(catalogue_state::specs::Step::given, catalogue_state::specs::Step::unless))]
     fn test_unpublish(&self, alloc: Global, who: u32, line: &Text) -> Result<(), Fault>
         ensures { Tests self.now (step self.now who (Ask.Unpublish line.now)) (λ _. (Done, without_line self.now line.now)) result }
     {
@@ -205,7 +209,7 @@ impl Catalogue {
     // ---- pins
 
     /// Tests whether a published graph may be held, and makes the pin of its latest snapshot.
-    #[tactic(auto, unfolding(crate::specs::Step::given, crate::specs::Step::unless))]
+    #[tactic(auto, unfolding(catalogue_state::specs::Step::given, catalogue_state::specs::Step::unless))]
     fn pin_to_hold(&self, alloc: Global, who: u32, line: &Text, name: &Text) -> Result<Held, Fault>
         ensures tests { Tests self.now (step self.now who (Ask.Get line.now name.now)) (λ h. (Sid h.snap.sid, with_session self.now who (hold_more h))) result }
         ensures may { IfOk result (λ h. MayPin self.now who name.now h) }
@@ -258,7 +262,7 @@ impl Catalogue {
     }
 
     /// Tests whether a pin may be moved, and shares the snapshot that it moves to.
-    #[tactic(auto, unfolding(crate::specs::Step::given))]
+    #[tactic(auto, unfolding(catalogue_state::specs::Step::given))]
     fn snap_to_check_out(
         &self,
         alloc: Global,
@@ -315,6 +319,132 @@ impl Catalogue {
     {
         match self.snap_to_check_out(alloc, who, name, target) {
             Ok(snap) => self.move_pin(who, name, snap),
+            Err(fault) => refused(fault),
+        }
+    }
+
+    // ---- one snapshot more
+
+    /// The graph of a pin that may get a snapshot more, with its published graph and that one's name.
+    #[tactic(auto, unfolding(catalogue_state::specs::Step::given, crate::specs::Coming::append_to))]
+    fn pin_to_append<'a>(
+        &'a self,
+        alloc: Global,
+        who: u32,
+        name: &Text,
+        changes: &ChangeList,
+    ) -> Result<(&'a Held, &'a Text, &'a Line), Fault>
+        ensures tests { Tests self.now (step self.now who (Ask.Append name.now changes.now)) (λ p. append_to self.now p.1.now p.2.now p.0.now changes.now) result }
+        ensures held { IfOk result (λ p. find (named name.now) (holds self.now who) ≡ Some p.0.now) }
+        ensures line { IfOk result (λ p. line_of self.now p.1.now ≡ Some p.2.now) }
+        ensures root { IfOk result (λ p. Contains (roots self.now) p.0.now.snap) }
+    {
+        let held = match self.session(who) {
+            Some(session) => held_as(session.held.as_slice(), name),
+            None => return Err(Fault::Refused(Refusal::NotOpen)),
+        };
+        let Some(graph) = held else {
+            return Err(no_name(alloc, name));
+        };
+        let Hold::Pin(line) = &graph.hold else {
+            return Err(not_pinned(alloc, name));
+        };
+        let Some(published) = self.line(line) else {
+            return Err(no_line(alloc, line));
+        };
+        Ok((graph, line, published))
+    }
+
+    /// Tests whether a published graph may get a snapshot more over that of a pin, and makes it of what was built.
+    #[tactic(auto, unfolding(catalogue_state::specs::Step::given, catalogue_state::specs::Step::unless, catalogue_state::specs::Step::unless_refused, crate::specs::Coming::append_to))]
+    fn coming_to(
+        &self,
+        alloc: Global,
+        graph: &Held,
+        line: &Text,
+        published: &Line,
+        changes: &ChangeList,
+        made: Made,
+    ) -> Result<Coming, Fault>
+        requires ready { IsReady self.now }
+        requires root { Contains (roots self.now) graph.now.snap }
+        requires built { IsBuilt (Changes changes.now) graph.now.snap.shot made }
+        ensures tests { Tests self.now (append_to self.now line.now published.now graph.now changes.now) (λ c. (Sid c.snap.sid, appended self.now line.now c.snap (length c.new))) result }
+        ensures arrives { IfOk result (Arrives self.now graph.now.snap (Changes changes.now)) }
+    {
+        if published.source.is_some() {
+            return Err(sourced(alloc, line));
+        }
+        let Some(latest) = published.snaps.as_slice().last() else {
+            return Err(no_line(alloc, line));
+        };
+        if latest.get().sid != graph.snap.get().sid {
+            return Err(Fault::Refused(Refusal::NotLatest(latest.get().sid)));
+        }
+        self.coming(alloc, graph.snap.get(), made)
+    }
+
+    /// Tests whether a published graph may get a snapshot more, and makes it of what was built. The name of the published graph comes
+    /// beside it.
+    fn snap_to_append(
+        &self,
+        alloc: Global,
+        who: u32,
+        name: &Text,
+        changes: &ChangeList,
+        made: Made,
+    ) -> Result<(Text, Coming), Fault>
+        requires ready { IsReady self.now }
+        requires made { IsMadeFor (holds self.now who) (Ask.Append name.now changes.now) made }
+        ensures tests { Tests self.now (step self.now who (Ask.Append name.now changes.now)) (λ p. (Sid p.1.snap.sid, appended self.now p.0 p.1.snap (length p.1.new))) result }
+        ensures may { IfOk result (λ p. MayAppend self.now p.0 p.1.snap (length p.1.new)) }
+        ensures comes { IfOk result (λ p. Comes (roots self.now) self.now.next_column p.1.snap p.1.kept p.1.new) }
+    {
+        let (graph, line, published) = self.pin_to_append(alloc, who, name, changes)?;
+        let coming = self.coming_to(alloc, graph, line, published, changes, made)?;
+        Ok((Text::from_str(alloc, line.as_str())?, coming))
+    }
+
+    /// The published graph has one snapshot more, which keeps some columns of others, and has new parts.
+    fn add_snap(&mut self, alloc: Global, line: &Text, coming: Coming) -> Result<(), NoMemory>
+        requires ready { IsReady self.old }
+        requires may { MayAppend self.old line.now coming.snap (length coming.new) }
+        requires comes { Comes (roots self.old) self.old.next_column coming.snap coming.kept coming.new }
+        ensures ok { OnOk result (self.new ≡ appended self.old line.now coming.snap (length coming.new)) }
+        ensures err { OnErr result (self.new ≡ self.old) }
+    {
+        let Coming { snap, kept, new } = coming;
+        let count = new.len() as u32;
+        self.registry.reserve(count)?;
+        let snap = Shared::new(alloc, snap)?;
+        let gone = self.lines.append(line, snap)?;
+        count_columns(&mut self.registry, kept.as_slice(), self.next_column, new);
+        release_gone(&mut self.registry, gone);
+        self.next_sid += 1;
+        self.next_column += count as u64;
+        Ok(())
+    }
+
+    pub(crate) fn append(
+        &mut self,
+        alloc: Global,
+        who: u32,
+        name: &Text,
+        changes: &ChangeList,
+        made: Made,
+    ) -> Result<Response, NoMemory>
+        requires ready { IsReady self.old }
+        requires made { IsMadeFor (holds self.old who) (Ask.Append name.now changes.now) made }
+        ensures ok { IfOk result (IsServed self.old who (Ask.Append name.now changes.now) self.new) }
+        ensures err { OnErr result (self.new ≡ self.old) }
+        ensures surely { OnErr result (RunsOut self.old who (Ask.Append name.now changes.now)) }
+    {
+        match self.snap_to_append(alloc, who, name, changes, made) {
+            Ok((line, coming)) => {
+                let sid = coming.snap.sid;
+                self.add_snap(alloc, &line, coming)?;
+                Ok(told(sid))
+            }
             Err(fault) => refused(fault),
         }
     }

@@ -1,7 +1,7 @@
 //! How a call ends.
 ghost use Rattle.std.specs.Prelude.{◌≡◌, IfOk, OnErr};
-ghost use Rattle.catalogue.specs.declared.reply.Refusal.TheVariants.{NoSource, NameTaken, NoName, NotPrivate, LineTaken, NoLine, NotOwner, NotPinned};
-ghost use Rattle.catalogue.specs.Response.{TellsRefusal, IsRefusal, RefusalTakesMemory, done_response, sid_response};
+ghost use Rattle.catalogue_state.specs.declared.reply.Refusal.TheVariants.{NoSource, NameTaken, NoName, NotPrivate, LineTaken, NoLine, NotOwner, Sourced, NotPinned};
+ghost use Rattle.catalogue.specs.Response.{TellsRefusal, IsRefusal, RefusalTakesMemory, done_response, told_response, sid_response};
 
 use crate::{Gift, Refusal, Reply, Snap};
 use column_types::{NoMemory, Shared, Text};
@@ -43,6 +43,17 @@ pub(crate) fn done() -> Response
     }
 }
 
+/// Tells the id of a snapshot that came, and hands nothing out. It takes no memory.
+pub(crate) fn told(sid: u64) -> Response
+    ensures { result ≡ told_response sid }
+{
+    Response {
+        kept: Reply::Sid(sid),
+        reply: Reply::Sid(sid),
+        gift: Gift::Nothing,
+    }
+}
+
 /// Tells the id of a snapshot that came, and hands it out. It takes no memory.
 pub(crate) fn came(snap: Shared<Snap>) -> Response
     ensures { result ≡ sid_response snap }
@@ -61,6 +72,11 @@ fn copied(refusal: &Refusal) -> Result<Refusal, NoMemory>
     ensures err { OnErr result (RefusalTakesMemory refusal.now) }
 {
     Ok(match refusal {
+        Refusal::TooBig => Refusal::TooBig,
+        Refusal::BadRow(row, cause) => Refusal::BadRow(*row, *cause),
+        Refusal::BadChange(place, why) => Refusal::BadChange(*place, *why),
+        Refusal::MixedEnds(name) => Refusal::MixedEnds(name.clone()?),
+        Refusal::KeysSpent => Refusal::KeysSpent,
         Refusal::SessionsFull => Refusal::SessionsFull,
         Refusal::NoSource(name) => Refusal::NoSource(name.clone()?),
         Refusal::NameTaken(name) => Refusal::NameTaken(name.clone()?),
@@ -72,6 +88,8 @@ fn copied(refusal: &Refusal) -> Result<Refusal, NoMemory>
         Refusal::NoLine(name) => Refusal::NoLine(name.clone()?),
         Refusal::NotOwner(name) => Refusal::NotOwner(name.clone()?),
         Refusal::NoSnapshot(sid) => Refusal::NoSnapshot(*sid),
+        Refusal::Sourced(name) => Refusal::Sourced(name.clone()?),
+        Refusal::NotLatest(sid) => Refusal::NotLatest(*sid),
         Refusal::NotVisible(front) => Refusal::NotVisible(*front),
         Refusal::NotPinned(name) => Refusal::NotPinned(name.clone()?),
         Refusal::NotOpen => Refusal::NotOpen,
@@ -159,6 +177,16 @@ pub(crate) fn not_owner(alloc: Global, name: &Text) -> Fault
 {
     match Text::from_str(alloc, name.as_str()) {
         Ok(name) => Fault::Refused(Refusal::NotOwner(name)),
+        Err(_) => Fault::NoMemory,
+    }
+}
+
+/// The refusal that hands on the name of a published graph that has a source.
+pub(crate) fn sourced(alloc: Global, name: &Text) -> Fault
+    ensures { IsRefusal (Sourced name.now) result }
+{
+    match Text::from_str(alloc, name.as_str()) {
+        Ok(name) => Fault::Refused(Refusal::Sourced(name)),
         Err(_) => Fault::NoMemory,
     }
 }

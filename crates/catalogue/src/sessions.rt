@@ -1,9 +1,9 @@
 //! The open sessions, with the graphs that they hold.
 ghost use Rattle.std.specs.Prelude.{◌≡◌, ◌≤◌, ◌++◌, [], ◌∷◌, OnOk, OnErr, length, find, position, Contains, option_and_then, option_map};
 ghost use Rattle.std.specs.Option.{option_copied};
-ghost use Rattle.catalogue.specs.declared.parts.Session.{Session as SessionData};
-ghost use Rattle.catalogue.specs.State.{named, of_who, held_of, change_first, drop_first};
-ghost use Rattle.catalogue.specs.Step.{hold_more, let_go, to_pin, to_snap, pin_as, move_to};
+ghost use Rattle.catalogue_state.specs.declared.parts.Session.{Session as SessionData};
+ghost use Rattle.catalogue_state.specs.State.{named, of_who, held_of, change_first, drop_first};
+ghost use Rattle.catalogue_state.specs.Step.{hold_more, let_go, to_pin, to_snap, pin_as, move_to};
 
 use crate::{Held, Hold, Session, Snap};
 use column_types::{List, NoMemory, Shared, Text};
@@ -18,7 +18,7 @@ pub(crate) struct Sessions {
 
 impl Model for Sessions {
     ghost use Rattle.std.specs.Prelude.{List as Items};
-    ghost use Rattle.catalogue.specs.declared.parts.Session.{Session as ASession};
+    ghost use Rattle.catalogue_state.specs.declared.parts.Session.{Session as ASession};
 
     ghost Value = { Items ASession };
 

@@ -2,8 +2,8 @@
 ghost use Rattle.std.specs.Prelude.{◌≡◌, ◌≤◌, IfOk, OnOk, All, find, length, map};
 ghost use Rattle.std.specs.Option.{option_copied};
 ghost use Rattle.graph_slots.specs.Slots.{slots};
-ghost use Rattle.catalogue.specs.State.{from_source};
-ghost use Rattle.catalogue.specs.Bound.{unfed};
+ghost use Rattle.catalogue_state.specs.State.{from_source};
+ghost use Rattle.catalogue_state.specs.Bound.{unfed};
 
 use crate::{Source, SourceData};
 use column_types::{List, NoMemory, Shared, Text};
@@ -18,7 +18,7 @@ pub(crate) struct Sources {
 
 impl Model for Sources {
     ghost use Rattle.std.specs.Prelude.{List as Items};
-    ghost use Rattle.catalogue.specs.declared.parts.Source.{Source as ASource};
+    ghost use Rattle.catalogue_state.specs.declared.parts.Source.{Source as ASource};
 
     ghost Value = { Items ASource };
 

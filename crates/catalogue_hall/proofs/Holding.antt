@@ -7,23 +7,23 @@ use Rattle.std.proofs.lemmas.List.{map_push}
 use Rattle.turn_hall.specs.declared.entry.Entry.{Entry}
 use Rattle.turn_hall.specs.Replay.{replay, entry}
 use Rattle.turn_hall.proofs.Histories.{replay-append}
-use Rattle.catalogue.specs.declared.ask.Ask.{Ask}
-use Rattle.catalogue.specs.declared.ask.Ask.TheVariants.{OpenSession, CloseSession, Peek, Place, Derive, Publish, Unpublish, Get, Checkout, Release, Columns, Lines}
-use Rattle.catalogue.specs.declared.ask.Target.{Target}
-use Rattle.catalogue.specs.declared.reply.Reply.{Reply}
-use Rattle.catalogue.specs.declared.reply.Reply.TheVariants.{Sid}
-use Rattle.catalogue.specs.declared.reply.Refusal.{Refusal}
-use Rattle.catalogue.specs.declared.call.Gift.{Gift}
-use Rattle.catalogue.specs.declared.call.Gift.TheVariants as gift
-use Rattle.catalogue.specs.declared.parts.Snap.{Snap}
-use Rattle.catalogue.specs.declared.parts.Held.{Held}
-use Rattle.catalogue.specs.declared.parts.Session.{Session}
-use Rattle.catalogue.specs.State.{Name, State, of_who, named, session_of, held_of, held_in, holds, change_first, drop_first}
-use Rattle.catalogue.specs.Step.{Answer, refuse, unless, step, let_go, private_graph, drawn, placed, derived, new_columns, to_pin, to_snap, pin_as, move_to, pin, with_session}
-use Rattle.catalogue.specs.Gift.{gift_of, snap_gift, held_under}
+use Rattle.catalogue_state.specs.declared.ask.Ask.{Ask}
+use Rattle.catalogue_state.specs.declared.ask.Ask.TheVariants.{OpenSession, CloseSession, Peek, Place, Derive, Publish, Unpublish, Get, Checkout, Append, Release, Columns, Lines}
+use Rattle.catalogue_state.specs.declared.ask.Target.{Target}
+use Rattle.catalogue_state.specs.declared.reply.Reply.{Reply}
+use Rattle.catalogue_state.specs.declared.reply.Reply.TheVariants.{Sid}
+use Rattle.catalogue_state.specs.declared.reply.Refusal.{Refusal}
+use Rattle.catalogue_state.specs.declared.call.Gift.{Gift}
+use Rattle.catalogue_state.specs.declared.call.Gift.TheVariants as gift
+use Rattle.catalogue_state.specs.declared.parts.Snap.{Snap}
+use Rattle.catalogue_state.specs.declared.parts.Held.{Held}
+use Rattle.catalogue_state.specs.declared.parts.Session.{Session}
+use Rattle.catalogue_state.specs.State.{Name, State, of_who, named, session_of, held_of, held_in, holds, change_first, drop_first}
+use Rattle.catalogue_state.specs.Step.{Answer, refuse, unless, step, let_go, private_graph, drawn, placed, derived, new_columns, to_pin, to_snap, pin_as, move_to, pin, with_session}
+use Rattle.catalogue_state.specs.Gift.{gift_of, snap_gift, held_under}
 use Rattle.catalogue.specs.Kept.{IsKept as IsSound}
-use Rattle.catalogue.specs.Desk.{given_keeps}
-use Rattle.catalogue.proofs.Counts.{only_one_dropped}
+use Rattle.catalogue_state.proofs.Keeping.{given_keeps, unless_keeps, unless_refused_keeps}
+use Rattle.catalogue_state.proofs.Counts.{only_one_dropped}
 use Rattle.catalogue.proofs.Drawing.{find_changed, find_push, session_drawn, held_drawn}
 use Rattle.catalogue_hall.specs.declared.held.Named.{Named}
 use Rattle.catalogue_hall.specs.History.{named_of, is_named, held_by}
@@ -132,9 +132,9 @@ module _ (m : State) (who : ℕ) (sound : IsSound m) where
   tells (Derive name base how) =
       let T = Tells (Derive name base how) in
       given_keeps T m (λ r. refl) _ _ _ (λ s is. given_keeps T m (λ r. refl) _ _ _ (λ b js.
-      unless_where T m _ _ _ refl (λ free. unless_where T m _ _ _ refl (λ room.
+      unless_where T m _ _ _ refl (λ free. unless_where T m _ _ _ refl (λ room. unless_refused_keeps T m (λ r. refl) _ _ (λ ks.
       let snap = derived m b.snap how in
-      came (Derive name base how) (private_graph name None snap) snap.sid (new_columns how) s is free refl (λ n. refl)))))
+      came (Derive name base how) (private_graph name None snap) snap.sid (new_columns b.snap how) s is free refl (λ n. refl))))))
   tells (Publish name line keep threshold) =
       let T = Tells (Publish name line keep threshold) in
       given_keeps T m (λ r. refl) _ _ _ (λ s is. given_keeps T m (λ r. refl) _ _ _ (λ h js. given_keeps T m (λ r. refl) _ _ _ (λ source ks.
@@ -151,6 +151,11 @@ module _ (m : State) (who : ℕ) (sound : IsSound m) where
       let T = Tells (Checkout name target) in
       given_keeps T m (λ r. refl) _ _ _ (λ s is. given_keeps T m (λ r. refl) _ _ _ (λ h js. given_keeps T m (λ r. refl) _ _ _ (λ line ks.
       given_keeps T m (λ r. refl) _ _ _ (λ l ls. given_keeps T m (λ r. refl) _ _ _ (λ snap ms. moved name target snap s h is js)))))
+  tells (Append name changes) =
+      let T = Tells (Append name changes) in
+      given_keeps T m (λ r. refl) _ _ _ (λ s is. given_keeps T m (λ r. refl) _ _ _ (λ h js. given_keeps T m (λ r. refl) _ _ _ (λ line ks.
+      given_keeps T m (λ r. refl) _ _ _ (λ l ls. unless_keeps T m (λ r. refl) _ _ _ (given_keeps T m (λ r. refl) _ _ _ (λ last ns.
+      unless_keeps T m (λ r. refl) _ _ _ (unless_refused_keeps T m (λ r. refl) _ _ (λ os. refl))))))))
   tells (Release name) =
       let T = Tells (Release name) in
       given_keeps T m (λ r. refl) _ _ _ (λ s is. given_keeps T m (λ r. refl) _ _ _ (λ h js.

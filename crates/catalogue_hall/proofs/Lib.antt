@@ -1,2 +1,3 @@
 pub mod Opening
 pub mod Holding
+pub mod Making

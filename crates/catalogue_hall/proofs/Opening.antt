@@ -1,7 +1,7 @@
 -- The catalogue before any call.
 use Rattle.std.proofs.Common.{◌≡◌, List, [], ◌∷◌, refl, sym, ap, map}
-use Rattle.catalogue.specs.declared.parts.SourceData.{SourceData}
-use Rattle.catalogue.specs.Bound.{unfed, data_of, opened, opening, HasSmall}
+use Rattle.catalogue_state.specs.declared.parts.SourceData.{SourceData}
+use Rattle.catalogue_state.specs.Bound.{unfed, data_of, opened, opening, HasSmall}
 use Rattle.catalogue_hall.specs.Kept.{IsKept}
 
 data_back : (sources : List SourceData) → map data_of (map unfed sources) ≡ sources

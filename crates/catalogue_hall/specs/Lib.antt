@@ -1,3 +1,4 @@
 pub mod History
 pub mod Told
+pub mod Building
 pub mod Kept

@@ -1,6 +1,6 @@
 //! What calls change in what their caller holds.
 ghost use Rattle.std.specs.Prelude.{◌≡◌, ◌<◌, ◌++◌, [], ◌∷◌, IfOk, vec_len, vec_capacity, position};
-ghost use Rattle.catalogue.specs.State.{change_first, drop_first};
+ghost use Rattle.catalogue_state.specs.State.{change_first, drop_first};
 ghost use Rattle.catalogue_hall.specs.History.{is_named};
 ghost use Rattle.catalogue_hall.specs.Told.{effect_of, with_snap, held_when_done, held_with_snap, held_with_gift, held_by_reply};
 
@@ -32,6 +32,7 @@ pub(crate) fn effect_of(alloc: Global, ask: &Ask) -> Result<Effect, NoMemory>
         | Ask::Peek { .. }
         | Ask::Publish { .. }
         | Ask::Unpublish { .. }
+        | Ask::Append { .. }
         | Ask::Columns
         | Ask::Lines => Ok(Effect::Nothing),
         Ask::CloseSession => Ok(Effect::DropsAll),

@@ -7,10 +7,12 @@
 //!   beside the catalogue, and each call brings it up to date: it is what the session holds after the history, `held_by` of
 //!   specs/History. So a snapshot is read without a call.
 //!
-//! Graphs are made by the catalogue in its turn. A catalogue that many threads share will stand here beside `Alone`.
+//! A graph that a call derives is built before the call's turn, from the snapshot that its caller holds, and comes with the call. A
+//! catalogue that many threads share will stand here beside `Alone`.
 #![tactic(auto)]
 
 mod alone;
+mod building;
 mod effect;
 mod held;
 

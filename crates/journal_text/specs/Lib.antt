@@ -4,5 +4,6 @@ pub mod Lines
 pub mod Words
 pub mod Names
 pub mod Asks
+pub mod Causes
 pub mod Published
 pub mod Replies

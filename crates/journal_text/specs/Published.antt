@@ -2,8 +2,8 @@
 use Rattle.std.specs.Prelude.{ℕ, List, [], ◌∷◌, ◌++◌, Option, Some, None, length, map, codes}
 use Rattle.std.specs.List.{flat_map}
 use Rattle.std.specs.Fmt.{decimal}
-use Rattle.catalogue.specs.declared.reply.LineInfo.{LineInfo}
-use Rattle.journal_text.specs.Lines.{reply_line}
+use Rattle.catalogue_state.specs.declared.reply.LineInfo.{LineInfo}
+use Rattle.journal_text.specs.Lines.{reply_line, count_reply}
 use Rattle.journal_text.specs.Names.{name_of}
 
 -- `SID:FRONT`
@@ -27,4 +27,4 @@ published_line names info = reply_line info.name (published_words names info ++ 
 
 -- `ok N`, then a line for each published graph
 abbrev pub lines_text : List (List ℕ) → List LineInfo → List ℕ
-lines_text names infos = reply_line (codes "ok") (decimal (length infos) ∷ []) ++ flat_map (published_line names) infos
+lines_text names infos = count_reply (length infos) ++ flat_map (published_line names) infos

@@ -3,11 +3,13 @@ ghost use Rattle.std.specs.Prelude.{◌≡◌, [], ◌∷◌, ◌++◌, OnOk, On
 ghost use Rattle.std.specs.Io.{StartsWith};
 ghost use Rattle.journal_text.specs.Lines.{phrase};
 ghost use Rattle.journal_text.specs.Words.{word_text};
-ghost use Rattle.journal_text.specs.Asks.{ask_text, derive_text, publish_text, target_text, way_name};
+ghost use Rattle.journal_text.specs.Asks.{append_text, ask_text, derive_text, mutation_name, publish_text, target_text};
 
 use crate::words::{Word, push_spaced};
-use catalogue::{Ask, How, Mutation, Target};
+use catalogue_state::{Ask, How, Target};
+use changeset::ChangeList;
 use column_types::{NoMemory, Text};
+use graph_mutate::Mutation;
 
 /// Appends a word and further words.
 fn push_phrase(text: &mut Text, first: &str, words: &[Word]) -> Result<(), NoMemory>
@@ -18,11 +20,16 @@ fn push_phrase(text: &mut Text, first: &str, words: &[Word]) -> Result<(), NoMem
     push_spaced(text, words)
 }
 
-fn way_name(mutation: &Mutation) -> &'static str
-    ensures { result.now ≡ way_name mutation.now }
+/// The change of a whole graph, as a script names it.
+fn mutation_name(mutation: &Mutation) -> &'static str
+    ensures { result.now ≡ mutation_name mutation.now }
 {
     match mutation {
         Mutation::Clone => "clone",
+        Mutation::Transpose => "transpose",
+        Mutation::Undirect => "undirect",
+        Mutation::Simplify => "simplify",
+        Mutation::SortByDegree => "sortdeg",
     }
 }
 
@@ -35,19 +42,34 @@ fn push_derive<'a>(
     ensures ok { OnOk result (text.new ≡ text.old ++ derive_text name.now base.now how.now) }
     ensures begins { OnErr result (StartsWith text.new text.old) }
 {
+    let (name, base) = (Word::Name(name.as_str()), Word::Name(base.as_str()));
+    let (from, by) = (Word::Name("from"), Word::Name("by"));
     match how {
-        How::Mutate(mutation) => push_phrase(
-            text,
-            "derive",
-            &[
-                Word::Name(name.as_str()),
-                Word::Name("from"),
-                Word::Name(base.as_str()),
-                Word::Name("by"),
-                Word::Name(way_name(mutation)),
-            ],
-        ),
+        How::Mutate(mutation) => {
+            let way = Word::Name(mutation_name(mutation));
+            push_phrase(text, "derive", &[name, from, base, by, way])
+        }
+        How::Changes(changes) => {
+            let way = Word::Name("changes");
+            let count = Word::Number(u64::from(changes.len()));
+            push_phrase(text, "derive", &[name, from, base, by, way, count])
+        }
     }
+}
+
+fn push_append(text: &mut Text, name: &Text, changes: &ChangeList) -> Result<(), NoMemory>
+    ensures ok { OnOk result (text.new ≡ text.old ++ append_text name.now changes.now) }
+    ensures begins { OnErr result (StartsWith text.new text.old) }
+{
+    push_phrase(
+        text,
+        "append",
+        &[
+            Word::Name(name.as_str()),
+            Word::Name("changes"),
+            Word::Number(u64::from(changes.len())),
+        ],
+    )
 }
 
 fn push_publish<'a>(
@@ -150,6 +172,7 @@ pub fn push_ask(text: &mut Text, ask: &Ask) -> Result<(), NoMemory>
         Ask::Unpublish { line } => push_phrase(text, "unpublish", &[Word::Name(line.as_str())]),
         Ask::Get { line, name } => push_get(text, name, line),
         Ask::Checkout { name, target } => push_checkout(text, name, target),
+        Ask::Append { name, changes } => push_append(text, name, changes),
         Ask::Release { name } => push_phrase(text, "release", &[Word::Name(name.as_str())]),
         Ask::Columns => text.push("columns"),
         Ask::Lines => text.push("lines"),

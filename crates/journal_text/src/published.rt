@@ -1,14 +1,14 @@
 //! The lines that tell of published graphs.
-ghost use Rattle.std.specs.Prelude.{◌≡◌, [], ◌∷◌, ◌++◌, OnOk, OnErr, map, codes};
-ghost use Rattle.std.specs.Fmt.{decimal};
+ghost use Rattle.std.specs.Prelude.{◌≡◌, ◌++◌, OnOk, OnErr, map, codes};
 ghost use Rattle.std.specs.Io.{StartsWith};
-ghost use Rattle.journal_text.specs.Lines.{spaced, reply_line};
+ghost use Rattle.journal_text.specs.Lines.{spaced};
 ghost use Rattle.journal_text.specs.Published.{snap_text, source_text, published_words, published_line, lines_text};
 
+use crate::lines::push_count_reply;
 use crate::names::name_of;
 use crate::number::push_count;
 use crate::words::{Word, push_spaced};
-use catalogue::LineInfo;
+use catalogue_state::LineInfo;
 use column_types::{NoMemory, Text};
 
 /// Appends the id and the front of a snapshot.
@@ -80,22 +80,12 @@ fn push_info(text: &mut Text, info: &LineInfo, names: &[Text]) -> Result<(), NoM
     text.push("\n")
 }
 
-/// Appends the number of published graphs.
-fn push_info_count(text: &mut Text, count: u64) -> Result<(), NoMemory>
-    ensures ok { OnOk result (text.new ≡ text.old ++ reply_line (codes "ok") (decimal count ∷ [])) }
-    ensures begins { OnErr result (StartsWith text.new text.old) }
-{
-    text.push("  ok ")?;
-    push_count(text, count)?;
-    text.push("\n")
-}
-
 /// Appends the number of published graphs, and the line of each.
 pub fn push_lines(text: &mut Text, infos: &[LineInfo], names: &[Text]) -> Result<(), NoMemory>
     ensures ok { OnOk result (text.new ≡ text.old ++ lines_text names.now infos.now) }
     ensures begins { OnErr result (StartsWith text.new text.old) }
 {
-    push_info_count(text, infos.len() as u64)?;
+    push_count_reply(text, infos.len() as u64)?;
     for info in infos {
         push_info(text, info, names)?;
     }

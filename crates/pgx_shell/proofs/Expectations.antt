@@ -8,7 +8,7 @@ use Rattle.script_read.specs.Meaning.{IsScript, HasFiles}
 use Rattle.script_read.specs.declared.script.SourceForm.{SourceForm}
 use Rattle.script_read.specs.declared.script.SourceForm.TheVariants as form
 use Rattle.script_read.specs.declared.script.Script.{Script}
-use Rattle.catalogue.specs.declared.parts.SourceData.{SourceData}
+use Rattle.catalogue_state.specs.declared.parts.SourceData.{SourceData}
 use Rattle.pgx_shell.specs.Expected.{expected_script, expected_run, IfBoth, IsExpected, IsExpectedStop}
 use Rattle.pgx_shell.specs.Sources.{source_stop, or_stop}
 use Rattle.table_loader.specs.Fault.{◌>>=◌}

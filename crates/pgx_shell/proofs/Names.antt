@@ -4,8 +4,8 @@ use Rattle.std.specs.Prelude.{AllPairs, cond}
 use Rattle.std.specs.Str.{bytes_eq}
 use Rattle.std.proofs.lemmas.Slice.Eq.{bytes_eq-Decides}
 use Rattle.graph_model.proofs.Rows.{count_cons}
-use Rattle.catalogue.specs.Bound.{NamesDiffer}
-use Rattle.catalogue.specs.declared.parts.SourceData.{SourceData}
+use Rattle.catalogue_state.specs.Bound.{NamesDiffer}
+use Rattle.catalogue_state.specs.declared.parts.SourceData.{SourceData}
 use Rattle.script_read.specs.declared.script.SourceText.{SourceText}
 use Rattle.source_open.specs.Opening.{names_of, opened_names}
 

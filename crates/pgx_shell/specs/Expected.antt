@@ -7,7 +7,7 @@ use Rattle.pgx_io.specs.Files.{Files}
 use Rattle.table_loader.specs.Fault.{◌>>=◌}
 use Rattle.source_open.specs.Opening.{opened, names_of, opened_names, AreInlineOf}
 use Rattle.pgx_shell.specs.Sources.{or_stop}
-use Rattle.catalogue.specs.declared.parts.SourceData.{SourceData}
+use Rattle.catalogue_state.specs.declared.parts.SourceData.{SourceData}
 use Rattle.pgx_shell.specs.declared.stop.Stop.{Stop}
 use Rattle.pgx_shell.specs.declared.stop.Stop.TheVariants.{TooLong, BadLine}
 

@@ -4,12 +4,12 @@ use Rattle.std.specs.List.{flat_map}
 use Rattle.std.specs.Fmt.{decimal}
 use Rattle.actor_records.specs.declared.record.Did.TheVariants.{Core, Local, Starved}
 use Rattle.journal_text.specs.Asks.{ask_text}
-use Rattle.journal_text.specs.Lines.{reply_line}
+use Rattle.journal_text.specs.Lines.{reply_line, count_reply}
 use Rattle.journal_text.specs.Replies.{reply_text, refusal_text, starved_text}
 use Rattle.journal_text.specs.Names.{name_of}
 use Rattle.journal_text.specs.Graphs.{text_of}
 use Rattle.session_run.specs.declared.record.LocalReply.{LocalReply}
-use Rattle.session_run.specs.declared.record.LocalReply.TheVariants.{Done, Rows, Refused}
+use Rattle.session_run.specs.declared.record.LocalReply.TheVariants.{Done, Count, Rows, Refused}
 use Rattle.session_run.specs.Record.{ActorDid, ActorRecord}
 
 -- where a record stands: N, or N.J for one that is no core record
@@ -24,6 +24,7 @@ head_text names r = codes "[" ++ place_text r.number r.after r.index ++ codes " 
 -- the reply lines of a local command
 abbrev pub local_text : LocalReply → List ℕ
 local_text Done = reply_line (codes "ok") []
+local_text (Count n) = count_reply n
 local_text (Rows graph) = text_of graph
 local_text (Refused refusal) = refusal_text refusal
 

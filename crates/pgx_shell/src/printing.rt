@@ -4,7 +4,8 @@ ghost use Rattle.pgx_shell.specs.Journal.{journal_text, record_text, did_text, l
 
 use column_types::{NoMemory, Text};
 use journal_text::{
-    graph_text, name_of, push_ask, push_count, push_refusal, push_reply, push_starved,
+    graph_text, name_of, push_ask, push_count, push_count_reply, push_refusal, push_reply,
+    push_starved,
 };
 use session_run::{Did, LocalReply, Record};
 use std::alloc::Global;
@@ -93,6 +94,7 @@ fn push_local(alloc: Global, text: &mut Text, reply: &LocalReply) -> Result<(), 
 {
     match reply {
         LocalReply::Done => text.push("  ok\n"),
+        LocalReply::Count(count) => push_count_reply(text, *count),
         LocalReply::Rows(snapshot) => text.push(graph_text(alloc, snapshot)?.as_str()),
         LocalReply::Refused(refusal) => push_refusal(text, refusal),
     }

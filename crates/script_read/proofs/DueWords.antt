@@ -6,14 +6,13 @@ use Rattle.std.proofs.Math.Seq.{drop-nil, drop-length}
 use Rattle.std.proofs.lemmas.Bool.{ne_eqb, ltb-true, ltb-false, false≢true}
 use Rattle.std.proofs.lemmas.Bool.Decides.{nat_tests}
 use Rattle.script_read.specs.declared.args.Arg.{Arg}
-use Rattle.script_read.specs.declared.args.Arg.TheVariants as arg
 use Rattle.script_read.specs.declared.fault.LineFault.{LineFault}
 use Rattle.script_read.specs.declared.fault.LineFault.TheVariants as fault
 use Rattle.script_read.specs.declared.fault.LineWhy.{LineWhy}
 use Rattle.script_read.specs.declared.fault.LineWhy.TheVariants as why
 use Rattle.script_read.specs.declared.script.Form.{Form}
 use Rattle.script_read.specs.Commands.{CommandRow, row_of, dues_among, dues_of, by_row, form_among, form_at, checked, form_of}
-use Rattle.script_read.specs.Dues.{Due, text, a_name, a_file, a_key, a_number, text_or_number, due_of, fits, wrong_word, has_form, wrong_behind}
+use Rattle.script_read.specs.Dues.{Due, text, a_name, a_file, a_key, a_number, text_or_number, rest, due_of, is_rest, piece_in, fits, wrong_word, has_form, wrong_behind}
 use Rattle.script_read.specs.Faults.{◌>>=◌, Gives, GivesSurely, unless}
 use Rattle.script_read.specs.Words.{words_of, word_count, word_in, word_at, same, is_name, is_file_name, number, key_number}
 
@@ -25,13 +24,19 @@ and_swap true false = refl
 and_swap false true = refl
 and_swap false false = refl
 
-fits_one : (due : Due) (dues : List Due) (word : List ℕ) (words : List (List ℕ)) → fits (due ∷ dues) (word ∷ words) ≡ (fits (due ∷ []) (word ∷ []) && fits dues words)
+and_true : (b : Bool) → b ≡ (b && true)
+and_true true = refl
+and_true false = refl
+
+fits_one : (due : Due) (dues : List Due) (word : List ℕ) (words : List (List ℕ))
+    → fits (due ∷ dues) (word ∷ words) ≡ (fits (due ∷ []) (piece_in due (word ∷ words) 0 ∷ []) && (is_rest due || fits dues words))
 fits_one (text t) dues word words = and_swap (fits dues words) (same word t)
 fits_one a_name dues word words = refl
 fits_one a_file dues word words = refl
 fits_one a_key dues word words = refl
 fits_one (a_number least most) dues word words = refl
 fits_one (text_or_number t least most) dues word words = refl
+fits_one rest dues word words = and_true _
 
 fits_none : (due : Due) (dues : List Due) → fits (due ∷ dues) [] ≡ false
 fits_none (text t) dues = refl
@@ -40,18 +45,21 @@ fits_none a_file dues = refl
 fits_none a_key dues = refl
 fits_none (a_number least most) dues = refl
 fits_none (text_or_number t least most) dues = refl
+fits_none rest dues = refl
 
 or_behind : (b : Bool) (w : LineWhy) (o : Option LineWhy) → (if b then o else Some w) ≡ option_or (if b then None else Some w) o
 or_behind true w o = refl
 or_behind false w o = refl
 
-wrong_one : (due : Due) (dues : List Due) (word : List ℕ) (words : List (List ℕ)) → wrong_word (due ∷ dues) (word ∷ words) ≡ option_or (wrong_word (due ∷ []) (word ∷ [])) (wrong_word dues words)
+wrong_one : (due : Due) (dues : List Due) (word : List ℕ) (words : List (List ℕ))
+    → wrong_word (due ∷ dues) (word ∷ words) ≡ option_or (wrong_word (due ∷ []) (piece_in due (word ∷ words) 0 ∷ [])) (if is_rest due then None else wrong_word dues words)
 wrong_one (text t) dues word words = refl
 wrong_one a_name dues word words = or_behind (is_name word) why.Name (wrong_word dues words)
 wrong_one a_file dues word words = or_behind (is_file_name word) why.Name (wrong_word dues words)
 wrong_one a_key dues word words = or_behind (is_some (key_number word)) why.Number (wrong_word dues words)
 wrong_one (a_number least most) dues word words = or_behind (is_some (number least most word)) why.Number (wrong_word dues words)
 wrong_one (text_or_number t least most) dues word words = or_behind (same word t || is_some (number least most word)) why.Number (wrong_word dues words)
+wrong_one rest dues word words = refl
 
 -- ---- word by word
 
@@ -63,7 +71,7 @@ abbrev pub wrong_from : ℕ → List Arg → List (List ℕ) → Option LineWhy
 wrong_from i dues words = wrong_behind (map due_of (drop i dues)) (drop i words)
 
 pub has_next : (dues : List Arg) (words : List (List ℕ)) (i : ℕ) (d : Arg) → i < length dues → suc i < length words
-    → has_from i dues words ≡ (fits (due_of (get_or dues i d) ∷ []) (word_in words (suc i) ∷ []) && has_from (suc i) dues words)
+    → has_from i dues words ≡ (fits (due_of (get_or dues i d) ∷ []) (piece_in (due_of (get_or dues i d)) words (suc i) ∷ []) && (is_rest (due_of (get_or dues i d)) || has_from (suc i) dues words))
 has_next [] words i d l m = absurd (omega (arith, l))
 has_next (x ∷ dues) [] i d l m = absurd (omega (arith, m))
 has_next (x ∷ dues) (w ∷ []) zero d l m = absurd (omega (arith, m))
@@ -88,7 +96,8 @@ has_all (x ∷ dues) [] = ap (has_form (map due_of (drop (length dues) dues))) (
 has_all (x ∷ dues) (w ∷ words) = has_all dues words ∙ count_same (length words) (length dues)
 
 pub wrong_next : (dues : List Arg) (words : List (List ℕ)) (i : ℕ) (d : Arg) → i < length dues → suc i < length words
-    → wrong_from i dues words ≡ option_or (wrong_word (due_of (get_or dues i d) ∷ []) (word_in words (suc i) ∷ [])) (wrong_from (suc i) dues words)
+    → wrong_from i dues words
+    ≡ option_or (wrong_word (due_of (get_or dues i d) ∷ []) (piece_in (due_of (get_or dues i d)) words (suc i) ∷ [])) (if is_rest (due_of (get_or dues i d)) then None else wrong_from (suc i) dues words)
 wrong_next [] words i d l m = absurd (omega (arith, l))
 wrong_next (x ∷ dues) [] i d l m = absurd (omega (arith, m))
 wrong_next (x ∷ dues) (w ∷ []) zero d l m = absurd (omega (arith, m))
@@ -108,10 +117,11 @@ pub no_word_left : (dues : List Arg) (line : List ℕ) (i n : ℕ) → n ≡ wor
 unfolding word_count
 no_word_left dues line i n c l m = has_no_word dues (words_of line) i l (omega (arith, c, m))
 
-pub word_next : (dues : List Arg) (line : List ℕ) (i n : ℕ) (d : Arg) (word : List ℕ) → n ≡ word_count line → i < length dues → i + 1 < n → word ≡ word_at line (i + 1)
-    → has_from i dues (words_of line) ≡ (fits (due_of (get_or dues i d) ∷ []) (word ∷ []) && has_from (i + 1) dues (words_of line))
-unfolding word_count word_at
-word_next dues line i n d word c l m e = rw (e, add-one) (has_next dues (words_of line) i d l (omega (arith, c, m)))
+pub word_next : (dues : List Arg) (line : List ℕ) (i n : ℕ) (d : Arg) (piece : List ℕ) → n ≡ word_count line → i < length dues → i + 1 < n
+    → piece ≡ piece_in (due_of (get_or dues i d)) (words_of line) (i + 1)
+    → has_from i dues (words_of line) ≡ (fits (due_of (get_or dues i d) ∷ []) (piece ∷ []) && (is_rest (due_of (get_or dues i d)) || has_from (i + 1) dues (words_of line)))
+unfolding word_count
+word_next dues line i n d piece c l m e = rw (e, add-one) (has_next dues (words_of line) i d l (omega (arith, c, m)))
 
 pub words_end : (dues : List Arg) (line : List ℕ) (i n : ℕ) → n ≡ word_count line → i ≡ length dues → (n == length dues + 1) ≡ has_from i dues (words_of line)
 unfolding word_count
@@ -129,15 +139,25 @@ stands_by false dues words i e l h = absurd (false≢true (sym (has_no_word dues
 stands : (dues : List Arg) (words : List (List ℕ)) (i : ℕ) → i < length dues → has_from i dues words ≡ true → suc i < length words
 stands dues words i l h = stands_by (nat_lt (suc i) (length words)) dues words i refl l h
 
-pub had_next : (dues : List Arg) (line : List ℕ) (i : ℕ) → i < length dues → has_from i dues (words_of line) ≡ true → has_from (i + 1) dues (words_of line) ≡ true
-had_next dues line i l h =
-    let m = stands dues (words_of line) i l h in
-    rw add-one (and_rest _ _ (sym (has_next dues (words_of line) i arg.Name l m) ∙ h))
+pub rest_passes : (a b t : Bool) → t ≡ a → t ≡ true → (a || b) ≡ true
+rest_passes true b t e h = refl
+rest_passes false b t e h = absurd (false≢true (sym e ∙ h))
 
-pub why_next : (dues : List Arg) (line : List ℕ) (i : ℕ) (d : Arg) (word : List ℕ) → i < length dues → has_from i dues (words_of line) ≡ true → word ≡ word_at line (i + 1)
-    → wrong_from i dues (words_of line) ≡ option_or (wrong_word (due_of (get_or dues i d) ∷ []) (word ∷ [])) (wrong_from (i + 1) dues (words_of line))
-unfolding word_at
-why_next dues line i d word l h e = rw (e, add-one) (wrong_next dues (words_of line) i d l (stands dues (words_of line) i l h))
+pub no_rest : (a b t : Bool) → t ≡ a → t ≡ false → (a || b) ≡ b
+no_rest true b t e h = absurd (false≢true (sym h ∙ e))
+no_rest false b t e h = refl
+
+pub had_next : (dues : List Arg) (line : List ℕ) (i : ℕ) (d : Arg) (t : Bool) → i < length dues → has_from i dues (words_of line) ≡ true
+    → t ≡ is_rest (due_of (get_or dues i d)) → t ≡ false → has_from (i + 1) dues (words_of line) ≡ true
+had_next dues line i d t l h e f =
+    let m = stands dues (words_of line) i l h in
+    rw add-one (sym (no_rest _ _ t e f) ∙ and_rest _ _ (sym (has_next dues (words_of line) i d l m) ∙ h))
+
+pub why_next : (dues : List Arg) (line : List ℕ) (i : ℕ) (d : Arg) (piece : List ℕ) → i < length dues → has_from i dues (words_of line) ≡ true
+    → piece ≡ piece_in (due_of (get_or dues i d)) (words_of line) (i + 1)
+    → wrong_from i dues (words_of line)
+    ≡ option_or (wrong_word (due_of (get_or dues i d) ∷ []) (piece ∷ [])) (if is_rest (due_of (get_or dues i d)) then None else wrong_from (i + 1) dues (words_of line))
+why_next dues line i d piece l h e = rw (e, add-one) (wrong_next dues (words_of line) i d l (stands dues (words_of line) i l h))
 
 pub why_end : (dues : List Arg) (line : List ℕ) (i : ℕ) → i ≡ length dues → wrong_from i dues (words_of line) ≡ None
 why_end dues line i e = rw e (wrong_none dues (words_of line))
@@ -156,9 +176,15 @@ pub why_found : (o p w : Option LineWhy) → w ≡ o → is_some w ≡ true → 
 why_found None p w e h = absurd (false≢true (sym (ap is_some e) ∙ h))
 why_found (Some x) p w e h = sym e
 
-pub why_behind : (o p w : Option LineWhy) → w ≡ o → is_some w ≡ false → option_or o p ≡ p
-why_behind None p w e h = refl
-why_behind (Some x) p w e h = absurd (false≢true (sym h ∙ ap is_some e))
+pub why_rest : (o p w : Option LineWhy) (a t : Bool) → w ≡ o → t ≡ a → t ≡ true → option_or o (if a then None else p) ≡ w
+why_rest None p w true t e f h = sym e
+why_rest (Some x) p w true t e f h = sym e
+why_rest o p w false t e f h = absurd (false≢true (sym f ∙ h))
+
+pub why_behind : (o p w : Option LineWhy) (a t : Bool) → w ≡ o → is_some w ≡ false → t ≡ a → t ≡ false → option_or o (if a then None else p) ≡ p
+why_behind None p w true t e h f g = absurd (false≢true (sym g ∙ f))
+why_behind None p w false t e h f g = refl
+why_behind (Some x) p w a t e h f g = absurd (false≢true (sym h ∙ ap is_some e))
 
 -- ---- a whole line
 

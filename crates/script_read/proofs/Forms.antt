@@ -1,6 +1,6 @@
 -- A command that is read is one of the grammar.
 use Rattle.std.proofs.Common.{◌≡◌, ◌∙◌, sym, refl, ap, subst, ℕ, List, [], ◌∷◌, Bool, true, false, if◌then◌else◌, Option, Some, None, Ok, rules}
-use Rattle.std.specs.Prelude.{◌&&◌, ◌||◌, ◌++◌, IsTrue, is_some, unwrap_or, codes, find, ⊤}
+use Rattle.std.specs.Prelude.{◌≢◌, ◌==◌, ◌&&◌, ◌||◌, ◌++◌, not, length, IsTrue, is_some, unwrap_or, codes, find, ⊤}
 use Rattle.std.specs.Fmt.{decimal}
 use Rattle.std.specs.List.{AllByRecursion, join_with_byte}
 use Rattle.std.proofs.lemmas.Bool.{false≢true}
@@ -10,11 +10,11 @@ use Rattle.script_read.specs.declared.fault.LineWhy.TheVariants as why
 use Rattle.script_read.specs.declared.script.Command.{Command}
 use Rattle.script_read.specs.declared.script.Form.{Form}
 use Rattle.script_read.specs.declared.script.Form.TheVariants as form
-use Rattle.script_read.specs.Commands.{CommandRow, most_keep, most_long, lone_commands, name_commands, pair_commands, number_commands, commands, row_of, by_row, checked, form_of, command_of}
-use Rattle.script_read.specs.Dues.{Due, text, a_name, a_file, a_key, a_number, text_or_number, fits, wrong_word}
+use Rattle.script_read.specs.Commands.{CommandRow, most_keep, most_long, lone_commands, graph_commands, name_commands, derive_commands, pair_commands, number_commands, rest_commands, from_number, from_pair, from_derive, from_name, from_graph, commands, row_of, by_row, checked, form_of, command_of}
+use Rattle.script_read.specs.Dues.{Due, text, a_name, a_file, a_key, a_number, text_or_number, rest, fits, wrong_word}
 use Rattle.script_read.specs.Faults.{◌>>=◌, unless}
 use Rattle.script_read.specs.Meaning.{IsName, IsFileName, spelled, IsCommand}
-use Rattle.script_read.specs.Words.{same, words_of, word_in, is_name, is_file_name, number, key_number}
+use Rattle.script_read.specs.Words.{same, joined, words_of, word_in, is_name, is_file_name, number, key_number}
 use Rattle.script_read.proofs.Inversions.{err_ok, carried, first, same_is}
 use Rattle.script_read.proofs.Numbers.{number_is}
 
@@ -29,6 +29,7 @@ Filled (a_file ∷ dues) = ((word : List ℕ) × IsFileName word) × Filled dues
 Filled (a_key ∷ dues) = ((word : List ℕ) × IsTrue (is_some (key_number word))) × Filled dues
 Filled (a_number least most ∷ dues) = ((word : List ℕ) × IsTrue (is_some (number least most word))) × Filled dues
 Filled (text_or_number t least most ∷ dues) = ((word : List ℕ) × IsTrue (same word t || is_some (number least most word))) × Filled dues
+Filled (rest ∷ dues) = (word : List ℕ) × (more : List (List ℕ)) × (joined (word ∷ more) ≢ [])
 
 -- all words, with the texts that are due
 abbrev fill : (dues : List Due) → Filled dues → List (List ℕ)
@@ -39,6 +40,7 @@ fill (a_file ∷ dues) x = x.0.0 ∷ fill dues x.1
 fill (a_key ∷ dues) x = x.0.0 ∷ fill dues x.1
 fill (a_number least most ∷ dues) x = x.0.0 ∷ fill dues x.1
 fill (text_or_number t least most ∷ dues) x = x.0.0 ∷ fill dues x.1
+fill (rest ∷ dues) x = x.0 ∷ x.1
 
 record Meets (dues : List Due) (words : List (List ℕ)) : Type 0 where
   parts : Filled dues
@@ -54,6 +56,10 @@ no_why false o w h = cc
 
 same_words : (x y : List ℕ) (xs ys : List (List ℕ)) → x ≡ y → xs ≡ ys → x ∷ xs ≡ y ∷ ys
 same_words x y xs ys e f = cc
+
+not_empty : (bytes : List ℕ) → not (length bytes == 0) ≡ true → bytes ≢ []
+not_empty [] h e = absurd (false≢true h)
+not_empty (c ∷ bytes) h e = cc
 
 meets : (dues : List Due) (words : List (List ℕ)) → fits dues words ≡ true → wrong_word dues words ≡ None → Meets dues words
 meets [] [] f w = record { parts = tt; are = refl }
@@ -88,6 +94,8 @@ meets (text_or_number t least most ∷ dues) (x ∷ words) f w =
     let a = no_why (same x t || is_some (number least most x)) (wrong_word dues words) why.Number w in
     let m = meets dues words f a.1 in
     record { parts = ((x, a.0), m.parts); are = ap (λ (l : List (List ℕ)). x ∷ l) m.are }
+meets (rest ∷ dues) [] f w = absurd (false≢true f)
+meets (rest ∷ dues) (x ∷ words) f w = record { parts = (x, words, not_empty (joined (x ∷ words)) f); are = refl }
 
 -- the words of a line that has what is due behind its first word
 record Behind (dues : List Due) (words : List (List ℕ)) : Type 0 where
@@ -122,13 +130,25 @@ lone_rows : AllByRecursion RowSpells lone_commands
 unfolding lone_commands
 lone_rows = search rules
 
+graph_rows : AllByRecursion RowSpells graph_commands
+unfolding graph_commands
+graph_rows = search rules
+
 name_rows : AllByRecursion RowSpells name_commands
 unfolding name_commands
 name_rows = search rules
 
+derive_rows : AllByRecursion RowSpells derive_commands
+unfolding derive_commands
+derive_rows = search rules
+
 pair_rows : AllByRecursion RowSpells pair_commands
 unfolding pair_commands
 pair_rows = search rules
+
+rest_rows : AllByRecursion RowSpells rest_commands
+unfolding rest_commands
+rest_rows = search rules
 
 -- the words of a `publish` line, whose numbers are printed as they were written
 published_line : (graph line keep threshold : List ℕ) (k t : ℕ) → decimal k ≡ keep → decimal t ≡ threshold
@@ -160,8 +180,11 @@ all_and (x ∷ rows) more a b = (a.0, all_and rows more a.1 b)
 
 rows_spell : AllByRecursion RowSpells commands
 rows_spell =
-    all_and lone_commands (name_commands ++ (pair_commands ++ number_commands)) lone_rows
-    (all_and name_commands (pair_commands ++ number_commands) name_rows (all_and pair_commands number_commands pair_rows number_rows))
+    all_and lone_commands from_graph lone_rows
+    (all_and graph_commands from_name graph_rows
+    (all_and name_commands from_derive name_rows
+    (all_and derive_commands from_pair derive_rows
+    (all_and pair_commands from_number pair_rows (all_and number_commands rest_commands number_rows rest_rows)))))
 
 -- ---- a line
 
@@ -170,10 +193,10 @@ record IsRow (word : List ℕ) (r : CommandRow) : Type 0 where
   spells : RowSpells r
   begins : same word r.word ≡ true
 
-row_by : (b : Bool) (word : List ℕ) (x r : CommandRow) (rest : Option CommandRow) → same word x.word ≡ b → RowSpells x → (rest ≡ Some r → IsRow word r)
-    → (if b then Some x else rest) ≡ Some r → IsRow word r
-row_by true word x r rest e p f h = let d : x ≡ r = cc in subst (IsRow word) d (record { spells = p; begins = e })
-row_by false word x r rest e p f h = f h
+row_by : (b : Bool) (word : List ℕ) (x r : CommandRow) (more : Option CommandRow) → same word x.word ≡ b → RowSpells x → (more ≡ Some r → IsRow word r)
+    → (if b then Some x else more) ≡ Some r → IsRow word r
+row_by true word x r more e p f h = let d : x ≡ r = cc in subst (IsRow word) d (record { spells = p; begins = e })
+row_by false word x r more e p f h = f h
 
 row_is : (rows : List CommandRow) (word : List ℕ) (r : CommandRow) → AllByRecursion RowSpells rows → find (λ (x : CommandRow). same word x.word) rows ≡ Some r → IsRow word r
 row_is [] word r all h = cc

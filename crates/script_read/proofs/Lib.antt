@@ -12,3 +12,5 @@ pub mod Spelled
 pub mod Whys
 pub mod Surely
 pub mod DueWords
+pub mod Rests
+pub mod Written

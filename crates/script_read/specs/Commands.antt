@@ -5,9 +5,9 @@ use Rattle.script_read.specs.declared.fault.LineWhy.TheVariants as why
 use Rattle.script_read.specs.declared.script.Command.{Command}
 use Rattle.script_read.specs.declared.script.Form.{Form}
 use Rattle.script_read.specs.declared.script.Form.TheVariants as form
-use Rattle.script_read.specs.Dues.{Due, text, a_name, a_number, text_or_number, words_why}
+use Rattle.script_read.specs.Dues.{Due, text, a_name, a_number, text_or_number, rest, words_why}
 use Rattle.script_read.specs.Faults.{◌>>=◌, unless}
-use Rattle.script_read.specs.Words.{same, words_of, word_in, number_in}
+use Rattle.script_read.specs.Words.{same, words_of, word_in, number_in, rest_in}
 
 -- a command: its first word, what is due at the words behind it, and the form that its words have, counted from 0
 pub record CommandRow : Type 0 where
@@ -52,22 +52,39 @@ lone_commands =
     ∷ row (codes "close") [] (λ w. form.Close)
     ∷ row (codes "columns") [] (λ w. form.Columns)
     ∷ row (codes "lines") [] (λ w. form.Lines)
+    ∷ row (codes "discard") [] (λ w. form.Discard)
     ∷ []
 
--- the commands with a name
+-- the commands with the name of a graph
+unfoldable pub graph_commands : List CommandRow
+graph_commands =
+    row (codes "release") (a_name ∷ []) (λ w. form.Release (word_in w 1))
+    ∷ row (codes "rows") (a_name ∷ []) (λ w. form.Rows (word_in w 1))
+    ∷ row (codes "snapshot") (a_name ∷ []) (λ w. form.Snapshot (word_in w 1))
+    ∷ []
+
+-- the commands with the name of a source or of a line
 unfoldable pub name_commands : List CommandRow
 name_commands =
-    row (codes "release") (a_name ∷ []) (λ w. form.Release (word_in w 1))
-    ∷ row (codes "show") (a_name ∷ []) (λ w. form.Show (word_in w 1))
-    ∷ row (codes "rows") (a_name ∷ []) (λ w. form.Rows (word_in w 1))
+    row (codes "show") (a_name ∷ []) (λ w. form.Show (word_in w 1))
     ∷ row (codes "unpublish") (a_name ∷ []) (λ w. form.Unpublish (word_in w 1))
     ∷ []
 
--- the commands with two names
+-- the commands that make a graph from another
+unfoldable pub derive_commands : List CommandRow
+derive_commands =
+    row (codes "clone") from (λ w. form.Clone (word_in w 1) (word_in w 3))
+    ∷ row (codes "transpose") from (λ w. form.Transpose (word_in w 1) (word_in w 3))
+    ∷ row (codes "undirect") from (λ w. form.Undirect (word_in w 1) (word_in w 3))
+    ∷ row (codes "simplify") from (λ w. form.Simplify (word_in w 1) (word_in w 3))
+    ∷ row (codes "sortdeg") from (λ w. form.SortByDegree (word_in w 1) (word_in w 3))
+    ∷ row (codes "build") from (λ w. form.Build (word_in w 1) (word_in w 3))
+    ∷ []
+
+-- the other commands with two names
 unfoldable pub pair_commands : List CommandRow
 pair_commands =
     row (codes "load") from (λ w. form.Load (word_in w 1) (word_in w 3))
-    ∷ row (codes "clone") from (λ w. form.Clone (word_in w 1) (word_in w 3))
     ∷ row (codes "get") from (λ w. form.Get (word_in w 1) (word_in w 3))
     ∷ []
 
@@ -75,9 +92,29 @@ pair_commands =
 unfoldable pub number_commands : List CommandRow
 number_commands = row (codes "publish") published publish_form ∷ row (codes "checkout") checked_out checkout_form ∷ []
 
+-- the commands with a name and the rest of the line
+unfoldable pub rest_commands : List CommandRow
+rest_commands = row (codes "change") (a_name ∷ rest ∷ []) (λ w. form.Change (word_in w 1) (rest_in w 2)) ∷ []
+
+-- the commands of a part and of those behind it
+abbrev pub from_number : List CommandRow
+from_number = number_commands ++ rest_commands
+
+abbrev pub from_pair : List CommandRow
+from_pair = pair_commands ++ from_number
+
+abbrev pub from_derive : List CommandRow
+from_derive = derive_commands ++ from_pair
+
+abbrev pub from_name : List CommandRow
+from_name = name_commands ++ from_derive
+
+abbrev pub from_graph : List CommandRow
+from_graph = graph_commands ++ from_name
+
 -- the commands that are built
 abbrev pub commands : List CommandRow
-commands = lone_commands ++ (name_commands ++ (pair_commands ++ number_commands))
+commands = lone_commands ++ from_graph
 
 -- the command of these that begins with a word
 abbrev pub row_among : List CommandRow → List ℕ → Option CommandRow

@@ -6,7 +6,7 @@ use Rattle.script_read.specs.Words.{has_word}
 
 -- the commands that are not built yet
 unfoldable pub later_commands : List ℕ
-later_commands = codes "transpose undirect simplify sortdeg build snapshot refresh tick feed change discard hops components cores weights drop query"
+later_commands = codes "refresh tick feed hops components cores weights drop query"
 
 -- whether a line that begins with this word is allowed in a section and not built yet
 unfoldable pub comes_later : Section → List ℕ → Bool

@@ -34,6 +34,12 @@ spelled form.Columns = codes "columns"
 spelled form.Lines = codes "lines"
 spelled (form.Load graph source) = codes "load " ++ (graph ++ (codes " from " ++ source))
 spelled (form.Clone graph base) = codes "clone " ++ (graph ++ (codes " from " ++ base))
+spelled (form.Transpose graph base) = codes "transpose " ++ (graph ++ (codes " from " ++ base))
+spelled (form.Undirect graph base) = codes "undirect " ++ (graph ++ (codes " from " ++ base))
+spelled (form.Simplify graph base) = codes "simplify " ++ (graph ++ (codes " from " ++ base))
+spelled (form.SortByDegree graph base) = codes "sortdeg " ++ (graph ++ (codes " from " ++ base))
+spelled (form.Build graph base) = codes "build " ++ (graph ++ (codes " from " ++ base))
+spelled (form.Snapshot graph) = codes "snapshot " ++ graph
 spelled (form.Publish graph line keep threshold) =
     codes "publish " ++ (graph ++ (codes " as " ++ (line ++ (codes " keep " ++ (decimal keep ++ (codes " threshold " ++ decimal threshold))))))
 spelled (form.Unpublish line) = codes "unpublish " ++ line
@@ -43,6 +49,8 @@ spelled (form.CheckoutLatest graph) = codes "checkout " ++ (graph ++ codes " at 
 spelled (form.Release graph) = codes "release " ++ graph
 spelled (form.Show source) = codes "show " ++ source
 spelled (form.Rows graph) = codes "rows " ++ graph
+spelled (form.Change graph row) = codes "change " ++ (graph ++ (codes " " ++ row))
+spelled form.Discard = codes "discard"
 
 abbrev pub IsName : List ℕ → Type 0
 IsName word = IsTrue (is_name word)
@@ -55,7 +63,8 @@ pub record IsFrom (least most n : ℕ) : Type 0 where
   pub low : least ≤ n
   pub high : n ≤ most
 
--- the names of a form are names, and its numbers lie in their limits
+-- the names of a form are names, its numbers lie in their limits, and the rest of its line is not empty. A name has no space, so
+-- the line that a form spells says where its names end
 abbrev pub HasParts : Form → Type 0
 HasParts form.Open = ⊤
 HasParts form.Close = ⊤
@@ -63,6 +72,12 @@ HasParts form.Columns = ⊤
 HasParts form.Lines = ⊤
 HasParts (form.Load graph source) = IsName graph × IsName source
 HasParts (form.Clone graph base) = IsName graph × IsName base
+HasParts (form.Transpose graph base) = IsName graph × IsName base
+HasParts (form.Undirect graph base) = IsName graph × IsName base
+HasParts (form.Simplify graph base) = IsName graph × IsName base
+HasParts (form.SortByDegree graph base) = IsName graph × IsName base
+HasParts (form.Build graph base) = IsName graph × IsName base
+HasParts (form.Snapshot graph) = IsName graph
 HasParts (form.Publish graph line keep threshold) = IsName graph × IsName line × IsFrom 1 most_keep keep × IsFrom 1 most_long threshold
 HasParts (form.Unpublish line) = IsName line
 HasParts (form.Get graph line) = IsName graph × IsName line
@@ -71,6 +86,8 @@ HasParts (form.CheckoutLatest graph) = IsName graph
 HasParts (form.Release graph) = IsName graph
 HasParts (form.Show source) = IsName source
 HasParts (form.Rows graph) = IsName graph
+HasParts (form.Change graph row) = IsName graph × (row ≢ [])
+HasParts form.Discard = ⊤
 
 -- a command's line spells its form
 pub record IsCommand (command : Command) : Type 0 where

@@ -1,6 +1,6 @@
 -- The words of a line, and what a word is read as.
-use Rattle.std.specs.Prelude.{ℕ, ◌==◌, ◌&&◌, ◌||◌, ◌^◌, ℤ, Bool, false, not, nat_eq, nat_le, nat_lt, if◌then◌else◌, List, [], ◌∷◌, length, slice_get, unwrap_or, codes, Option, Some, None, Result, Ok, Err}
-use Rattle.std.specs.List.{list_all, list_any, slice_split}
+use Rattle.std.specs.Prelude.{ℕ, ◌==◌, ◌&&◌, ◌||◌, ◌^◌, ◌++◌, ℤ, Bool, false, not, nat_eq, nat_le, nat_lt, if◌then◌else◌, List, [], ◌∷◌, length, drop, slice_get, unwrap_or, codes, Option, Some, None, Result, Ok, Err}
+use Rattle.std.specs.List.{list_all, list_any, slice_split, join_with_byte}
 use Rattle.std.specs.Cmp.Lexicographic.{pointwise}
 use Rattle.std.specs.Str.Parse.{digits_value}
 use Rattle.column_types.specs.Reading.{whole_of}
@@ -29,6 +29,18 @@ word_in words place = unwrap_or (slice_get words place) []
 -- the same of the words of a line
 unfoldable pub word_at : List ℕ → ℕ → List ℕ
 word_at line place = word_in (words_of line) place
+
+-- the words, with a space between each two
+abbrev pub joined : List (List ℕ) → List ℕ
+joined words = join_with_byte 32 words
+
+-- the rest of a line from the word at a place on
+abbrev pub rest_in : List (List ℕ) → ℕ → List ℕ
+rest_in words place = joined (drop place words)
+
+-- the line of a word, a name and what stands behind them, with one space between each two
+abbrev pub rest_line : List ℕ → List ℕ → List ℕ → List ℕ
+rest_line word name behind = word ++ (32 ∷ (name ++ (32 ∷ behind)))
 
 -- whether a text is one of the words of a line
 unfoldable pub has_word : List ℕ → List ℕ → Bool

@@ -1,14 +1,14 @@
-//! The commands of a script: the words of each, and its form. The table of commands is cut into four, and each part has two
-//! functions, which hand a word that is not theirs to those of the next part.
-ghost use Rattle.std.specs.Prelude.{◌≡◌, ◌≤◌, ◌++◌, map, option_map, unwrap_or, IfOk};
-ghost use Rattle.script_read.specs.Commands.{name_commands, pair_commands, number_commands, dues_among, dues_of, publish_form, checkout_form, form_among, form_at, form_of, command_of};
+//! The commands of a script: the words of each, and its form. The table of commands is cut into seven parts, and each part has
+//! two functions, which hand a word that is not theirs to those of the next part.
+ghost use Rattle.std.specs.Prelude.{◌≡◌, ◌≤◌, map, option_map, unwrap_or, IfOk};
+ghost use Rattle.script_read.specs.Commands.{from_graph, from_name, from_derive, from_pair, from_number, rest_commands, dues_among, dues_of, publish_form, checkout_form, form_among, form_at, form_of, command_of};
 ghost use Rattle.script_read.specs.Dues.{due_of};
 ghost use Rattle.script_read.specs.Faults.{Gives};
-ghost use Rattle.script_read.specs.Words.{words_of, word_at, number};
+ghost use Rattle.script_read.specs.Words.{words_of, word_at, rest_in, number};
 
 use crate::args::{Arg, check_words};
 use crate::fault::{LineFault, LineWhy};
-use crate::words::{nth_word, read_number};
+use crate::words::{nth_word, read_number, rest_from};
 use crate::{Command, Form};
 use column_types::{NoMemory, Text};
 use std::alloc::Global;
@@ -48,37 +48,61 @@ fn args_of(word: &str) -> Option<&'static [Arg]>
     ensures { option_map (λ args. map due_of args.now) result ≡ dues_of word.now }
 {
     match word {
-        "open" | "close" | "columns" | "lines" => Some(&[]),
+        "open" | "close" | "columns" | "lines" | "discard" => Some(&[]),
+        _ => args_with_graph(word),
+    }
+}
+
+/// The same, among the commands with the name of a graph and in the parts behind them.
+#[tactic(auto, unfolding(crate::specs::Commands::dues_among, crate::specs::Commands::graph_commands))]
+fn args_with_graph(word: &str) -> Option<&'static [Arg]>
+    ensures { option_map (λ args. map due_of args.now) result ≡ dues_among from_graph word.now }
+{
+    match word {
+        "release" | "rows" | "snapshot" => Some(&[Arg::Name]),
         _ => args_with_name(word),
     }
 }
 
-/// The same of the commands with words behind the first.
+/// The same, among the commands with the name of a source or of a line and in the parts behind them.
 #[tactic(auto, unfolding(crate::specs::Commands::dues_among, crate::specs::Commands::name_commands))]
 fn args_with_name(word: &str) -> Option<&'static [Arg]>
-    ensures { option_map (λ args. map due_of args.now) result ≡ dues_among (name_commands ++ (pair_commands ++ number_commands)) word.now }
+    ensures { option_map (λ args. map due_of args.now) result ≡ dues_among from_name word.now }
 {
     match word {
-        "release" | "show" | "rows" | "unpublish" => Some(&[Arg::Name]),
+        "show" | "unpublish" => Some(&[Arg::Name]),
+        _ => args_of_derive(word),
+    }
+}
+
+/// The same, among the commands that make a graph from another and in the parts behind them.
+#[tactic(auto, unfolding(crate::specs::Commands::dues_among, crate::specs::Commands::derive_commands))]
+fn args_of_derive(word: &str) -> Option<&'static [Arg]>
+    ensures { option_map (λ args. map due_of args.now) result ≡ dues_among from_derive word.now }
+{
+    match word {
+        "clone" | "transpose" | "undirect" | "simplify" | "sortdeg" | "build" => {
+            Some(&[Arg::Name, Arg::Word("from"), Arg::Name])
+        }
         _ => args_with_pair(word),
     }
 }
 
-/// The same of the commands with several words behind the first.
+/// The same, among the other commands with two names and in the parts behind them.
 #[tactic(auto, unfolding(crate::specs::Commands::dues_among, crate::specs::Commands::pair_commands))]
 fn args_with_pair(word: &str) -> Option<&'static [Arg]>
-    ensures { option_map (λ args. map due_of args.now) result ≡ dues_among (pair_commands ++ number_commands) word.now }
+    ensures { option_map (λ args. map due_of args.now) result ≡ dues_among from_pair word.now }
 {
     match word {
-        "load" | "clone" | "get" => Some(&[Arg::Name, Arg::Word("from"), Arg::Name]),
+        "load" | "get" => Some(&[Arg::Name, Arg::Word("from"), Arg::Name]),
         _ => args_with_number(word),
     }
 }
 
-/// The same of the commands with numbers.
+/// The same, among the commands with numbers and in the parts behind them.
 #[tactic(auto, unfolding(crate::specs::Commands::dues_among, crate::specs::Commands::number_commands))]
 fn args_with_number(word: &str) -> Option<&'static [Arg]>
-    ensures { option_map (λ args. map due_of args.now) result ≡ dues_among number_commands word.now }
+    ensures { option_map (λ args. map due_of args.now) result ≡ dues_among from_number word.now }
 {
     match word {
         "publish" => Some(&[
@@ -95,6 +119,17 @@ fn args_with_number(word: &str) -> Option<&'static [Arg]>
             Arg::Word("at"),
             Arg::WordOrNumber("latest", 1, MOST_LONG),
         ]),
+        _ => args_with_rest(word),
+    }
+}
+
+/// The same, among the commands with a name and the rest of the line.
+#[tactic(auto, unfolding(crate::specs::Commands::dues_among, crate::specs::Commands::rest_commands))]
+fn args_with_rest(word: &str) -> Option<&'static [Arg]>
+    ensures { option_map (λ args. map due_of args.now) result ≡ dues_among rest_commands word.now }
+{
+    match word {
+        "change" => Some(&[Arg::Name, Arg::Rest]),
         _ => None,
     }
 }
@@ -109,45 +144,83 @@ fn form_at(alloc: Global, line: &str) -> Result<Form, LineFault>
         "close" => Ok(Form::Close),
         "columns" => Ok(Form::Columns),
         "lines" => Ok(Form::Lines),
+        "discard" => Ok(Form::Discard),
+        _ => form_with_graph(alloc, line),
+    }
+}
+
+/// The same, among the commands with the name of a graph and in the parts behind them.
+#[tactic(auto, unfolding(crate::specs::Commands::form_among, crate::specs::Commands::graph_commands, crate::specs::Words::word_at))]
+fn form_with_graph(alloc: Global, line: &str) -> Result<Form, LineFault>
+    ensures { Gives result (form_among from_graph (words_of line.now)) }
+{
+    match nth_word(line, 0) {
+        "release" => Ok(Form::Release(text_at(alloc, line, 1)?)),
+        "rows" => Ok(Form::Rows(text_at(alloc, line, 1)?)),
+        "snapshot" => Ok(Form::Snapshot(text_at(alloc, line, 1)?)),
         _ => form_with_name(alloc, line),
     }
 }
 
-/// The same of the commands with words behind the first.
+/// The same, among the commands with the name of a source or of a line and in the parts behind them.
 #[tactic(auto, unfolding(crate::specs::Commands::form_among, crate::specs::Commands::name_commands, crate::specs::Words::word_at))]
 fn form_with_name(alloc: Global, line: &str) -> Result<Form, LineFault>
-    ensures { Gives result (form_among (name_commands ++ (pair_commands ++ number_commands)) (words_of line.now)) }
+    ensures { Gives result (form_among from_name (words_of line.now)) }
 {
     match nth_word(line, 0) {
-        "release" => Ok(Form::Release(text_at(alloc, line, 1)?)),
         "show" => Ok(Form::Show(text_at(alloc, line, 1)?)),
-        "rows" => Ok(Form::Rows(text_at(alloc, line, 1)?)),
         "unpublish" => Ok(Form::Unpublish(text_at(alloc, line, 1)?)),
+        _ => form_of_derive(alloc, line),
+    }
+}
+
+/// The same, among the commands that make a graph from another and in the parts behind them.
+#[tactic(auto, unfolding(crate::specs::Commands::form_among, crate::specs::Commands::derive_commands, crate::specs::Words::word_at))]
+fn form_of_derive(alloc: Global, line: &str) -> Result<Form, LineFault>
+    ensures { Gives result (form_among from_derive (words_of line.now)) }
+{
+    match nth_word(line, 0) {
+        "clone" => Ok(Form::Clone(text_at(alloc, line, 1)?, text_at(alloc, line, 3)?)),
+        "transpose" => Ok(Form::Transpose(text_at(alloc, line, 1)?, text_at(alloc, line, 3)?)),
+        "undirect" => Ok(Form::Undirect(text_at(alloc, line, 1)?, text_at(alloc, line, 3)?)),
+        "simplify" => Ok(Form::Simplify(text_at(alloc, line, 1)?, text_at(alloc, line, 3)?)),
+        "sortdeg" => Ok(Form::SortByDegree(text_at(alloc, line, 1)?, text_at(alloc, line, 3)?)),
+        "build" => Ok(Form::Build(text_at(alloc, line, 1)?, text_at(alloc, line, 3)?)),
         _ => form_with_pair(alloc, line),
     }
 }
 
-/// The same of the commands with several words behind the first.
+/// The same, among the other commands with two names and in the parts behind them.
 #[tactic(auto, unfolding(crate::specs::Commands::form_among, crate::specs::Commands::pair_commands, crate::specs::Words::word_at))]
 fn form_with_pair(alloc: Global, line: &str) -> Result<Form, LineFault>
-    ensures { Gives result (form_among (pair_commands ++ number_commands) (words_of line.now)) }
+    ensures { Gives result (form_among from_pair (words_of line.now)) }
 {
     match nth_word(line, 0) {
         "load" => Ok(Form::Load(text_at(alloc, line, 1)?, text_at(alloc, line, 3)?)),
-        "clone" => Ok(Form::Clone(text_at(alloc, line, 1)?, text_at(alloc, line, 3)?)),
         "get" => Ok(Form::Get(text_at(alloc, line, 1)?, text_at(alloc, line, 3)?)),
         _ => form_with_number(alloc, line),
     }
 }
 
-/// The same of the commands with numbers.
+/// The same, among the commands with numbers and in the parts behind them.
 #[tactic(auto, unfolding(crate::specs::Commands::form_among, crate::specs::Commands::number_commands, crate::specs::Words::word_at))]
 fn form_with_number(alloc: Global, line: &str) -> Result<Form, LineFault>
-    ensures { Gives result (form_among number_commands (words_of line.now)) }
+    ensures { Gives result (form_among from_number (words_of line.now)) }
 {
     match nth_word(line, 0) {
         "publish" => Ok(publish_form(alloc, line)?),
         "checkout" => Ok(checkout_form(alloc, line)?),
+        _ => form_with_rest(alloc, line),
+    }
+}
+
+/// The same, among the commands with a name and the rest of the line.
+#[tactic(auto, unfolding(crate::specs::Commands::form_among, crate::specs::Commands::rest_commands, crate::specs::Words::word_at))]
+fn form_with_rest(alloc: Global, line: &str) -> Result<Form, LineFault>
+    ensures { Gives result (form_among rest_commands (words_of line.now)) }
+{
+    match nth_word(line, 0) {
+        "change" => Ok(Form::Change(text_at(alloc, line, 1)?, text_from(alloc, line, 2)?)),
         _ => Err(LineFault::Bad(LineWhy::Word)),
     }
 }
@@ -181,6 +254,13 @@ fn text_at(alloc: Global, line: &str, place: usize) -> Result<Text, NoMemory>
     ensures { IfOk result (λ text. text ≡ word_at line.now place) }
 {
     Text::from_str(alloc, nth_word(line, place))
+}
+
+/// The rest of a line from the word at a place on.
+fn text_from(alloc: Global, line: &str, place: usize) -> Result<Text, NoMemory>
+    ensures { IfOk result (λ text. text ≡ rest_in (words_of line.now) place) }
+{
+    Text::from_str(alloc, rest_from(line, place))
 }
 
 /// The number from 1 to `most` at a place, and 0 where none stands there.

@@ -6,8 +6,7 @@ use crate::reading::Section;
 use crate::words::has_word;
 
 /// The commands that are not built yet.
-const LATER_COMMANDS: &str =
-    "transpose undirect simplify sortdeg build snapshot refresh tick feed change discard hops components cores weights drop query";
+const LATER_COMMANDS: &str = "refresh tick feed hops components cores weights drop query";
 
 /// Whether a line that begins with this word is allowed in a section and not built yet.
 #[tactic(auto, unfolding(crate::specs::Later::comes_later, crate::specs::Later::later_commands))]

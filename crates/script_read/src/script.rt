@@ -66,6 +66,19 @@ pub enum Form {
     Load(Text, Text),
     /// Clone under the first name the session graph of the second.
     Clone(Text, Text),
+    /// Make under the first name the session graph of the second with each edge turned round.
+    Transpose(Text, Text),
+    /// Make under the first name the session graph of the second with a twin, turned round, of each edge that is no loop.
+    Undirect(Text, Text),
+    /// Make under the first name the session graph of the second without loops, and with only the first of the edges of a table
+    /// from one vertex to another.
+    Simplify(Text, Text),
+    /// Make under the first name the session graph of the second with the vertices of each table by falling degree.
+    SortByDegree(Text, Text),
+    /// Make under the first name the session graph of the second after the open list of changes.
+    Build(Text, Text),
+    /// Give the line of the session graph of this name its next snapshot, by the open list of changes.
+    Snapshot(Text),
     /// Publish the session graph of the first name as the line of the second, which keeps so many snapshots, 1 to 64, and has
     /// this threshold, from 1 to the greatest LONG.
     Publish(Text, Text, u32, u64),
@@ -83,4 +96,9 @@ pub enum Form {
     Show(Text),
     /// Show the rows of the session graph of this name.
     Rows(Text),
+    /// Add the change that the second text writes to the open list of changes, by the tables of the session graph of the first
+    /// name. The text is the rest of the line, and not empty.
+    Change(Text, Text),
+    /// Empty the open list of changes.
+    Discard,
 }

@@ -2,7 +2,7 @@
 ghost use Rattle.std.specs.Prelude.{◌≡◌, ◌≤◌, IfSome};
 ghost use Rattle.std.specs.List.{list_all};
 ghost use Rattle.script_read.specs.Faults.{Gives, GivesSurely};
-ghost use Rattle.script_read.specs.Words.{word_count, word_at, has_word, is_letter, is_digit, is_name_byte, is_name, name, is_file_byte, is_file_name, file_name, is_decimal, decimal_number, number, is_key, key_number, key, alone, one_name};
+ghost use Rattle.script_read.specs.Words.{words_of, word_count, word_at, rest_in, has_word, is_letter, is_digit, is_name_byte, is_name, name, is_file_byte, is_file_name, file_name, is_decimal, decimal_number, number, is_key, key_number, key, alone, one_name};
 
 use crate::fault::{LineFault, LineWhy};
 use column_types::Text;
@@ -22,6 +22,20 @@ pub fn nth_word(line: &str, place: usize) -> &str
     ensures { result.now ≡ word_at line.now place }
 {
     line.split(' ').nth(place).unwrap_or("")
+}
+
+/// The rest of a line from the word at a place on, counted from 0, and the empty text past the end.
+pub fn rest_from(line: &str, place: usize) -> &str
+    ensures { result.now ≡ rest_in (words_of line.now) place }
+{
+    let mut rest = line;
+    for _i in 0..place {
+        match rest.split_once(' ') {
+            Some((_, behind)) => rest = behind,
+            None => return "",
+        }
+    }
+    rest
 }
 
 /// Whether a text is one of the words of a line.

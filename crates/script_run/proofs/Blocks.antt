@@ -7,9 +7,9 @@ use Rattle.std.proofs.lemmas.List.Sums.{sum_by-cons, sum_by-append}
 use Rattle.std.proofs.lemmas.List.Concat.{flat_map-append}
 use Rattle.std.proofs.lemmas.List.Elements.{All-from_recursion}
 use Rattle.turn_hall.specs.declared.entry.Entry.{Entry}
-use Rattle.catalogue.specs.State.{State}
-use Rattle.catalogue.specs.declared.ask.Ask.{Ask}
-use Rattle.catalogue.specs.declared.reply.Reply.{Reply}
+use Rattle.catalogue_state.specs.State.{State}
+use Rattle.catalogue_state.specs.declared.ask.Ask.{Ask}
+use Rattle.catalogue_state.specs.declared.reply.Reply.{Reply}
 use Rattle.catalogue_hall.specs.History.{History}
 use Rattle.script_read.specs.declared.script.Command.{Command}
 use Rattle.script_read.specs.declared.script.Block.{Block}

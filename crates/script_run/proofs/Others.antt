@@ -9,11 +9,11 @@ use Rattle.turn_hall.specs.Seen.{StartsWith}
 use Rattle.turn_hall.proofs.Histories.{replay-append}
 use Rattle.turn_hall.proofs.Numbers.{entries-append}
 use Rattle.turn_hall.proofs.Merging.{entries-here, later_none}
-use Rattle.catalogue.specs.Step.{step}
-use Rattle.catalogue.specs.State.{State, holds}
-use Rattle.catalogue.specs.declared.ask.Ask.{Ask}
-use Rattle.catalogue.specs.declared.reply.Reply.{Reply}
-use Rattle.catalogue.proofs.Own.{held_stays_along}
+use Rattle.catalogue_state.specs.Step.{step}
+use Rattle.catalogue_state.specs.State.{State, holds}
+use Rattle.catalogue_state.specs.declared.ask.Ask.{Ask}
+use Rattle.catalogue_state.specs.declared.reply.Reply.{Reply}
+use Rattle.catalogue_state.proofs.Own.{held_stays_along}
 use Rattle.catalogue_hall.specs.History.{named_of}
 
 module _ {N R : Type 0} where

@@ -13,12 +13,12 @@ use Rattle.actor_records.specs.Records.{parts_of}
 use Rattle.actor_records.specs.Walk.{walk}
 use Rattle.actor_records.proofs.Agreement.{agrees_other}
 use Rattle.actor_records.proofs.Journal.{walks_to_journal}
-use Rattle.catalogue.specs.Step.{step}
-use Rattle.catalogue.specs.State.{State}
-use Rattle.catalogue.specs.Bound.{opened, unfed, data_of}
-use Rattle.catalogue.specs.declared.ask.Ask.{Ask}
-use Rattle.catalogue.specs.declared.reply.Reply.{Reply}
-use Rattle.catalogue.specs.declared.parts.SourceData.{SourceData}
+use Rattle.catalogue_state.specs.Step.{step}
+use Rattle.catalogue_state.specs.State.{State}
+use Rattle.catalogue_state.specs.Bound.{opened, unfed, data_of}
+use Rattle.catalogue_state.specs.declared.ask.Ask.{Ask}
+use Rattle.catalogue_state.specs.declared.reply.Reply.{Reply}
+use Rattle.catalogue_state.specs.declared.parts.SourceData.{SourceData}
 use Rattle.catalogue_hall.specs.declared.held.Named.{Named}
 use Rattle.catalogue_hall.specs.History.{History}
 use Rattle.script_read.specs.declared.script.Command.{Command}

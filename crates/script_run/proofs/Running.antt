@@ -8,10 +8,10 @@ use Rattle.std.proofs.lemmas.List.Elements.{All-append, All-nil}
 use Rattle.turn_hall.specs.declared.entry.Entry.{Entry}
 use Rattle.turn_hall.specs.Replay.{IsLegal}
 use Rattle.actor_records.specs.Walk.{walk}
-use Rattle.catalogue.specs.Step.{step}
-use Rattle.catalogue.specs.declared.ask.Ask.{Ask}
-use Rattle.catalogue.specs.declared.reply.Reply.{Reply}
-use Rattle.catalogue.specs.declared.parts.SourceData.{SourceData}
+use Rattle.catalogue_state.specs.Step.{step}
+use Rattle.catalogue_state.specs.declared.ask.Ask.{Ask}
+use Rattle.catalogue_state.specs.declared.reply.Reply.{Reply}
+use Rattle.catalogue_state.specs.declared.parts.SourceData.{SourceData}
 use Rattle.catalogue_hall.specs.History.{History}
 use Rattle.script_read.specs.declared.script.Block.{Block}
 use Rattle.script_read.specs.declared.script.Script.{Script}

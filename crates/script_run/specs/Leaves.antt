@@ -1,8 +1,8 @@
 -- What blocks leave that are run one after another.
 use Rattle.std.specs.Prelude.{◌≡◌, ℕ, ◌+◌, ◌*◌, ◌≤◌, List, [], ◌∷◌, ◌++◌, length, ⊤}
 use Rattle.turn_hall.specs.declared.entry.Entry.{Entry}
-use Rattle.catalogue.specs.declared.ask.Ask.{Ask}
-use Rattle.catalogue.specs.declared.reply.Reply.{Reply}
+use Rattle.catalogue_state.specs.declared.ask.Ask.{Ask}
+use Rattle.catalogue_state.specs.declared.reply.Reply.{Reply}
 use Rattle.catalogue_hall.specs.History.{History}
 use Rattle.script_read.specs.declared.script.Block.{Block}
 use Rattle.script_read.specs.Phases.{phase_commands}

@@ -2,10 +2,10 @@
 use Rattle.std.specs.Prelude.{◌≡◌, ℕ, ◌+◌, ◌≤◌, List, [], ◌∷◌, ◌++◌, length, All}
 use Rattle.turn_hall.specs.declared.entry.Entry.{Entry}
 use Rattle.actor_records.specs.Journal.{IsJournal}
-use Rattle.catalogue.specs.Bound.{opened}
-use Rattle.catalogue.specs.declared.ask.Ask.{Ask}
-use Rattle.catalogue.specs.declared.reply.Reply.{Reply}
-use Rattle.catalogue.specs.declared.parts.SourceData.{SourceData}
+use Rattle.catalogue_state.specs.Bound.{opened}
+use Rattle.catalogue_state.specs.declared.ask.Ask.{Ask}
+use Rattle.catalogue_state.specs.declared.reply.Reply.{Reply}
+use Rattle.catalogue_state.specs.declared.parts.SourceData.{SourceData}
 use Rattle.script_read.specs.declared.script.Block.{Block}
 use Rattle.script_read.specs.declared.script.Script.{Script}
 use Rattle.session_run.specs.Language.{ActorMind, rules, first_mind}

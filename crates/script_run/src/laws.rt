@@ -1,9 +1,9 @@
 //! What holds of every run whose blocks are run one after another.
 ghost use Rattle.std.specs.Prelude.{◌≡◌, ◌++◌, List, All, length};
 ghost use Rattle.turn_hall.specs.declared.entry.Entry.{Entry};
-ghost use Rattle.catalogue.specs.declared.ask.Ask.{Ask};
-ghost use Rattle.catalogue.specs.declared.reply.Reply.{Reply};
-ghost use Rattle.catalogue.specs.declared.parts.SourceData.{SourceData};
+ghost use Rattle.catalogue_state.specs.declared.ask.Ask.{Ask};
+ghost use Rattle.catalogue_state.specs.declared.reply.Reply.{Reply};
+ghost use Rattle.catalogue_state.specs.declared.parts.SourceData.{SourceData};
 ghost use Rattle.script_read.specs.declared.script.Block.{Block};
 ghost use Rattle.script_read.specs.declared.script.Script.{Script};
 ghost use Rattle.script_read.specs.Phases.{MayRun};

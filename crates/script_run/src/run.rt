@@ -1,7 +1,7 @@
 //! Running a script on one thread.
 ghost use Rattle.std.specs.Prelude.{◌≡◌, [], ◌∷◌, length, sum_by, IfOk, OnOk};
 ghost use Rattle.std.specs.List.{AllByRecursion};
-ghost use Rattle.catalogue.specs.Bound.{NamesDiffer};
+ghost use Rattle.catalogue_state.specs.Bound.{NamesDiffer};
 ghost use Rattle.script_read.specs.Phases.{IsActor, IsPhase, MayRun, block_commands, phase_commands};
 ghost use Rattle.script_run.specs.Run.{IsRunInOrder};
 ghost use Rattle.script_run.specs.Leaves.{AreAtRest, BlocksRan, AllRan};

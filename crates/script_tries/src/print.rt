@@ -110,6 +110,12 @@ fn push_form(all: &mut String, form: &Form) -> Result<(), AllocError> {
         Form::Lines => all.push_str(": Lines"),
         Form::Load(graph, source) => push_names(all, ": Load ", graph, source),
         Form::Clone(graph, base) => push_names(all, ": Clone ", graph, base),
+        Form::Transpose(graph, base) => push_names(all, ": Transpose ", graph, base),
+        Form::Undirect(graph, base) => push_names(all, ": Undirect ", graph, base),
+        Form::Simplify(graph, base) => push_names(all, ": Simplify ", graph, base),
+        Form::SortByDegree(graph, base) => push_names(all, ": SortByDegree ", graph, base),
+        Form::Build(graph, base) => push_names(all, ": Build ", graph, base),
+        Form::Snapshot(graph) => push_words(all, ": Snapshot ", graph),
         Form::Publish(graph, line, keep, threshold) => {
             push_names(all, ": Publish ", graph, line)?;
             write!(all, " {keep} {threshold}")
@@ -124,6 +130,8 @@ fn push_form(all: &mut String, form: &Form) -> Result<(), AllocError> {
         Form::Release(graph) => push_words(all, ": Release ", graph),
         Form::Show(source) => push_words(all, ": Show ", source),
         Form::Rows(graph) => push_words(all, ": Rows ", graph),
+        Form::Change(graph, row) => push_names(all, ": Change ", graph, row),
+        Form::Discard => all.push_str(": Discard"),
     }
 }
 

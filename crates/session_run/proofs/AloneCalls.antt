@@ -4,8 +4,8 @@ use Rattle.std.specs.Prelude.{Some, Result, Ok, Err, OnErr}
 use Rattle.turn_hall.specs.Replay.{entry, entries_of}
 use Rattle.turn_hall.proofs.Merging.{same_entries}
 use Rattle.actor_records.specs.declared.record.Did.TheVariants.{Core}
-use Rattle.catalogue.specs.declared.ask.Ask.{Ask}
-use Rattle.catalogue.specs.declared.reply.Reply.{Reply}
+use Rattle.catalogue_state.specs.declared.ask.Ask.{Ask}
+use Rattle.catalogue_state.specs.declared.reply.Reply.{Reply}
 use Rattle.catalogue_hall.specs.declared.held.Named.{Named}
 use Rattle.catalogue_hall.specs.History.{History, held_by}
 use Rattle.session_run.specs.declared.place.Place.{Place}

@@ -5,8 +5,8 @@ use Rattle.turn_hall.specs.declared.entry.Entry.{Entry}
 use Rattle.turn_hall.specs.Replay.{entry}
 use Rattle.turn_hall.specs.Seen.{StartsWith}
 use Rattle.actor_records.specs.Records.{core_record}
-use Rattle.catalogue.specs.declared.ask.Ask.{Ask}
-use Rattle.catalogue.specs.declared.reply.Reply.{Reply}
+use Rattle.catalogue_state.specs.declared.ask.Ask.{Ask}
+use Rattle.catalogue_state.specs.declared.reply.Reply.{Reply}
 use Rattle.script_read.specs.declared.script.Command.{Command}
 use Rattle.session_run.specs.declared.record.LocalReply.{LocalReply}
 use Rattle.session_run.specs.Own.{OwnPart}

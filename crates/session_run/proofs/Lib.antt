@@ -1,4 +1,5 @@
 pub mod Nexts
+pub mod Rows
 pub mod Stepped
 pub mod Growth
 pub mod Runs

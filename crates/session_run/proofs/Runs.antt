@@ -4,10 +4,10 @@ use Rattle.std.proofs.lemmas.List.{map-append}
 use Rattle.std.specs.Prelude.{Option, Some, None, is_none}
 use Rattle.turn_hall.specs.Replay.{entry}
 use Rattle.actor_records.specs.Calls.{Todo}
-use Rattle.catalogue.specs.Bound.{data_of}
-use Rattle.catalogue.specs.declared.ask.Ask.{Ask}
-use Rattle.catalogue.specs.declared.reply.Reply.{Reply}
-use Rattle.catalogue.specs.declared.parts.SourceData.{SourceData}
+use Rattle.catalogue_state.specs.Bound.{data_of}
+use Rattle.catalogue_state.specs.declared.ask.Ask.{Ask}
+use Rattle.catalogue_state.specs.declared.reply.Reply.{Reply}
+use Rattle.catalogue_state.specs.declared.parts.SourceData.{SourceData}
 use Rattle.journal_text.specs.Asks.{ask_text}
 use Rattle.script_read.specs.declared.script.Command.{Command}
 use Rattle.session_run.specs.Own.{own_local}
@@ -27,7 +27,7 @@ going_start who command w shared at = record {
   goes = λ ends phase first later on a.
       let t : Todo Command = record { phase = phase; command = command } in
       subst (λ (b : Bool). Stands (sources_of w) ends first who w (if b then between w.own later else amid (sources_of w) ends first who w.own (t ∷ later) []))
-      (sym (first_call command.form shared)) a;
+      (sym (first_call command.form w.own shared)) a;
 }
 
 -- where the command has a further call, the actor is in the midst of it
@@ -74,7 +74,7 @@ going_starved who command replies w v x ask few due result is ended g =
       work = record { held = g.work.held; place = place_behind v.records _; index = omega arith };
       grew = grew_within (length replies + 1) (257 * 1) w (starved v who (ask_text ask)) (omega arith) (grew_starved (length replies) w v who (ask_text ask) g.grew);
       leads = λ ends phase first later on a.
-          core_starves (sources_of w) ends first who v (record { phase = phase; command = command }) later replies ask (local_has_none command.form replies ask due) due
+          core_starves (sources_of w) ends first who v (record { phase = phase; command = command }) later replies ask (local_has_none command.form v.own replies ask due) due
           (still who command replies w v ask due g ends phase first later on a);
     })
 

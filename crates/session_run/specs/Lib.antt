@@ -1,5 +1,6 @@
 pub mod Record
 pub mod Own
+pub mod Law
 pub mod Next
 pub mod Language
 pub mod Turns

@@ -3,7 +3,7 @@ use Rattle.std.specs.Prelude.{◌≡◌, ◌≢◌, ℕ, ◌+◌, ◌*◌, ◌�
 use Rattle.turn_hall.specs.Replay.{entries_of}
 use Rattle.turn_hall.specs.Seen.{StartsWith}
 use Rattle.actor_records.specs.Calls.{Todo, go_on}
-use Rattle.catalogue.specs.declared.reply.Reply.{Reply}
+use Rattle.catalogue_state.specs.declared.reply.Reply.{Reply}
 use Rattle.catalogue_hall.specs.History.{History, held_by}
 use Rattle.script_read.specs.declared.script.Command.{Command}
 use Rattle.session_run.specs.Own.{OwnPart}

@@ -2,8 +2,8 @@
 use Rattle.std.specs.Prelude.{ℕ, List}
 use Rattle.actor_records.specs.declared.record.Did.{Did}
 use Rattle.actor_records.specs.declared.record.Record.{Record}
-use Rattle.catalogue.specs.declared.ask.Ask.{Ask}
-use Rattle.catalogue.specs.declared.reply.Reply.{Reply}
+use Rattle.catalogue_state.specs.declared.ask.Ask.{Ask}
+use Rattle.catalogue_state.specs.declared.reply.Reply.{Reply}
 use Rattle.script_read.specs.declared.script.Command.{Command}
 use Rattle.session_run.specs.declared.record.LocalReply.{LocalReply}
 

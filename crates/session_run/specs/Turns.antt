@@ -6,10 +6,10 @@ use Rattle.turn_hall.specs.Replay.{entry, entries_of}
 use Rattle.actor_records.specs.declared.record.Did.TheVariants.{Local, Starved}
 use Rattle.actor_records.specs.Records.{core_record}
 use Rattle.actor_records.specs.Agreement.{Stand, AgreesWith}
-use Rattle.catalogue.specs.Bound.{data_of}
-use Rattle.catalogue.specs.declared.ask.Ask.{Ask}
-use Rattle.catalogue.specs.declared.reply.Reply.{Reply}
-use Rattle.catalogue.specs.declared.parts.SourceData.{SourceData}
+use Rattle.catalogue_state.specs.Bound.{data_of}
+use Rattle.catalogue_state.specs.declared.ask.Ask.{Ask}
+use Rattle.catalogue_state.specs.declared.reply.Reply.{Reply}
+use Rattle.catalogue_state.specs.declared.parts.SourceData.{SourceData}
 use Rattle.catalogue_hall.specs.declared.held.Named.{Named}
 use Rattle.catalogue_hall.specs.History.{History, held_by}
 use Rattle.journal_text.specs.Asks.{ask_text}

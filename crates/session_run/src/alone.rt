@@ -112,7 +112,7 @@ fn command_alone<R: Threads + Sync>(
         return Ok(());
     }
     let mut replies = List::new(alloc);
-    while let Some(ask) = next_ask(alloc, command, &actor.own, replies.as_slice())? {
+    while let Some(ask) = next_ask(command, &actor.own, replies.as_slice())? {
         match call_alone(alone, rt, alloc, actor, place, ask)? {
             Some(reply) => replies.push(reply)?,
             None => return Ok(()),

@@ -8,7 +8,7 @@ use Rattle.graph_model.specs.Graph.{GraphData}
 use Rattle.script_read.specs.declared.script.SourceForm.{SourceForm}
 use Rattle.script_read.specs.declared.script.SourceForm.TheVariants as form
 use Rattle.script_read.specs.declared.script.SourceText.{SourceText}
-use Rattle.catalogue.specs.declared.parts.SourceData.{SourceData}
+use Rattle.catalogue_state.specs.declared.parts.SourceData.{SourceData}
 use Rattle.table_loader.specs.Fault.{◌>>=◌}
 use Rattle.source_open.specs.Opening.{file_got, config_read, config_graph, file_graph, form_graph, source_graph, source_opened, opened, opened_after, names_of, opened_names, IsOfLines, IsInlineOf, AreInlineOf}
 use Rattle.source_open.specs.declared.fault.SourceFault.{SourceFault}

@@ -15,7 +15,7 @@ use Rattle.table_loader.specs.declared.fault.LoadFault.TheVariants as load_fault
 use Rattle.script_read.specs.declared.script.SourceForm.{SourceForm}
 use Rattle.script_read.specs.declared.script.SourceForm.TheVariants as form
 use Rattle.script_read.specs.declared.script.SourceText.{SourceText}
-use Rattle.catalogue.specs.declared.parts.SourceData.{SourceData}
+use Rattle.catalogue_state.specs.declared.parts.SourceData.{SourceData}
 use Rattle.table_loader.specs.Fault.{◌>>=◌}
 use Rattle.source_open.specs.Opening.{found, file_got, got_after, files_got, config_named, config_read, tables_named, tables_read, config_graph, file_graph, inline_files, form_graph, source_graph, source_opened, opened_after, opened}
 use Rattle.source_open.proofs.Kept.{then_is}

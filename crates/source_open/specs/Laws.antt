@@ -5,7 +5,7 @@ use Rattle.pgx_io.specs.Files.{Files}
 use Rattle.graph_config.specs.Config.{ConfigData}
 use Rattle.script_read.specs.declared.script.SourceForm.TheVariants.{Inline}
 use Rattle.script_read.specs.declared.script.SourceText.{SourceText}
-use Rattle.catalogue.specs.declared.parts.SourceData.{SourceData}
+use Rattle.catalogue_state.specs.declared.parts.SourceData.{SourceData}
 use Rattle.source_open.specs.Opening.{config_graph, source_graph, source_opened, opened}
 use Rattle.source_open.specs.declared.fault.SourceFault.{SourceFault}
 use Rattle.source_open.specs.declared.fault.SourceFault.TheVariants.{NoFile, BadTable}

@@ -16,7 +16,7 @@ use Rattle.graph_model.specs.Graph.{GraphData}
 use Rattle.script_read.specs.declared.script.SourceForm.{SourceForm}
 use Rattle.script_read.specs.declared.script.SourceForm.TheVariants as form
 use Rattle.script_read.specs.declared.script.SourceText.{SourceText}
-use Rattle.catalogue.specs.declared.parts.SourceData.{SourceData}
+use Rattle.catalogue_state.specs.declared.parts.SourceData.{SourceData}
 use Rattle.source_open.specs.declared.fault.SourceFault.{SourceFault}
 use Rattle.source_open.specs.declared.fault.SourceFault.TheVariants.{NoFile, BadConfig, BadTable, ReadFault, NoMemory}
 

@@ -1,7 +1,7 @@
 use Rattle.std.proofs.Common.{◌≡◌, ◌∙◌, ◌+◌, ◌++◌, ◌∷◌, List, sym, ap, subst, drop, get_or}
-use Rattle.catalogue.specs.declared.parts.Snap.{Snap}
-use Rattle.catalogue.specs.declared.parts.Held.{Held}
-use Rattle.catalogue.specs.State.{snaps_of}
+use Rattle.catalogue_state.specs.declared.parts.Snap.{Snap}
+use Rattle.catalogue_state.specs.declared.parts.Held.{Held}
+use Rattle.catalogue_state.specs.State.{snaps_of}
 use Rattle.catalogue.specs.Registry.{IsRegistry}
 use Rattle.catalogue.proofs.Apart.{next_snap, all_gone}
 use Rattle.catalogue.proofs.columns.release_graphs.Goals as goal

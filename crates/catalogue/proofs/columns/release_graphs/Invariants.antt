@@ -1,7 +1,7 @@
 use Rattle.std.proofs.Common.{drop}
 use Rattle.std.specs.Prelude.{◌++◌, List}
-use Rattle.catalogue.specs.declared.parts.Snap.{Snap}
-use Rattle.catalogue.specs.State.{snaps_of}
+use Rattle.catalogue_state.specs.declared.parts.Snap.{Snap}
+use Rattle.catalogue_state.specs.State.{snaps_of}
 use Rattle.catalogue.specs.Registry.{IsRegistry}
 use Rattle.catalogue.proofs.columns.release_graphs.Given as goal
 

@@ -1,5 +1,5 @@
 use Rattle.std.proofs.Common.{◌∷◌}
-use Rattle.catalogue.proofs.Lists.{here}
+use Rattle.catalogue_state.proofs.Lists.{here}
 use Rattle.catalogue.proofs.Uses.{all_listed, all_used, registry_drop}
 use Rattle.catalogue.proofs.columns.release_snap.Goals as goal
 

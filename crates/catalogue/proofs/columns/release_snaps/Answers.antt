@@ -1,7 +1,7 @@
 use Rattle.std.proofs.Common.{◌≡◌, ◌∙◌, ◌+◌, ◌++◌, ◌∷◌, List, sym, ap, subst, drop, get_or}
-use Rattle.catalogue.specs.declared.parts.Snap.{Snap}
+use Rattle.catalogue_state.specs.declared.parts.Snap.{Snap}
 use Rattle.catalogue.specs.Registry.{IsRegistry}
-use Rattle.catalogue.proofs.Latest.{next_of, none_left}
+use Rattle.catalogue_state.proofs.Latest.{next_of, none_left}
 use Rattle.catalogue.proofs.columns.release_snaps.Goals as goal
 
 pub release_snap-requires : goal.release_snap-requires

@@ -1,6 +1,6 @@
 use Rattle.std.proofs.Common.{drop}
 use Rattle.std.specs.Prelude.{◌++◌, List}
-use Rattle.catalogue.specs.declared.parts.Snap.{Snap}
+use Rattle.catalogue_state.specs.declared.parts.Snap.{Snap}
 use Rattle.catalogue.specs.Registry.{IsRegistry}
 use Rattle.catalogue.proofs.columns.release_snaps.Given as goal
 

@@ -1,7 +1,7 @@
 use Rattle.std.proofs.Common.{◌≡◌, ◌∙◌, sym, ap, Some}
 use Rattle.std.specs.Prelude.{position}
 use Rattle.std.proofs.lemmas.Option.{get_or_from_slice_get}
-use Rattle.catalogue.specs.State.{from_line}
+use Rattle.catalogue_state.specs.State.{from_line}
 use Rattle.catalogue.proofs.Places.{none_found, none_dropped, some_found, some_dropped}
 use Rattle.catalogue.proofs.lines.drop_line.Goals as goal
 

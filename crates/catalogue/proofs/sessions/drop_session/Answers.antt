@@ -1,7 +1,7 @@
 use Rattle.std.proofs.Common.{◌≡◌, ◌∙◌, arith, sym, ap, Some}
 use Rattle.std.specs.Prelude.{position}
 use Rattle.std.proofs.lemmas.Option.{get_or_from_slice_get}
-use Rattle.catalogue.specs.State.{of_who}
+use Rattle.catalogue_state.specs.State.{of_who}
 use Rattle.catalogue.proofs.Places.{none_found, none_dropped, some_found, some_dropped, some_within}
 use Rattle.catalogue.proofs.sessions.drop_session.Goals as goal
 

@@ -1,10 +1,10 @@
 use Rattle.std.proofs.Common.{◌≡◌, ◌∙◌, sym, ap, Some, List, get_or}
 use Rattle.std.specs.Prelude.{position, option_and_then}
 use Rattle.std.proofs.lemmas.List.Elements.{Contains-get_or}
-use Rattle.catalogue.specs.declared.parts.Session.{Session}
-use Rattle.catalogue.specs.declared.parts.Held.{Held}
-use Rattle.catalogue.specs.State.{of_who, held_of}
-use Rattle.catalogue.specs.Step.{let_go}
+use Rattle.catalogue_state.specs.declared.parts.Session.{Session}
+use Rattle.catalogue_state.specs.declared.parts.Held.{Held}
+use Rattle.catalogue_state.specs.State.{of_who, held_of}
+use Rattle.catalogue_state.specs.Step.{let_go}
 use Rattle.catalogue.proofs.Places.{none_found, none_changed, lent_changed, some_found, some_within}
 use Rattle.catalogue.proofs.sessions.let_go_of.Goals as goal
 

@@ -1,9 +1,9 @@
 use Rattle.std.proofs.Common.{◌≡◌, ◌∙◌, sym, ap, Some, List, get_or}
 use Rattle.std.specs.Prelude.{position, option_map}
-use Rattle.catalogue.specs.declared.parts.Snap.{Snap}
-use Rattle.catalogue.specs.declared.parts.Held.{Held}
-use Rattle.catalogue.specs.State.{named}
-use Rattle.catalogue.specs.Step.{to_snap}
+use Rattle.catalogue_state.specs.declared.parts.Snap.{Snap}
+use Rattle.catalogue_state.specs.declared.parts.Held.{Held}
+use Rattle.catalogue_state.specs.State.{named}
+use Rattle.catalogue_state.specs.Step.{to_snap}
 use Rattle.catalogue.proofs.Places.{none_found, none_changed, lent_changed, some_found}
 use Rattle.catalogue.proofs.sessions.move_held.Goals as goal
 

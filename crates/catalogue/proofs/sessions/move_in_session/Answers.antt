@@ -1,9 +1,9 @@
 use Rattle.std.proofs.Common.{◌≡◌, ◌∙◌, sym, ap, Some, Option, List, get_or}
-use Rattle.std.specs.Prelude.{position, find, option_map, option_and_then}
-use Rattle.catalogue.specs.declared.parts.Session.{Session}
-use Rattle.catalogue.specs.declared.parts.Held.{Held}
-use Rattle.catalogue.specs.State.{of_who, held_of}
-use Rattle.catalogue.specs.Step.{move_to}
+use Rattle.std.specs.Prelude.{position, option_map, option_and_then}
+use Rattle.catalogue_state.specs.declared.parts.Session.{Session}
+use Rattle.catalogue_state.specs.declared.parts.Held.{Held}
+use Rattle.catalogue_state.specs.State.{of_who, held_of}
+use Rattle.catalogue_state.specs.Step.{move_to}
 use Rattle.catalogue.proofs.Places.{none_found, none_changed, lent_changed, some_found}
 use Rattle.catalogue.proofs.sessions.move_in_session.Goals as goal
 

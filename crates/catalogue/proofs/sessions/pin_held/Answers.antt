@@ -1,8 +1,8 @@
 use Rattle.std.proofs.Common.{◌≡◌, ◌∙◌, sym, ap, Some, List, get_or}
 use Rattle.std.specs.Prelude.{position}
-use Rattle.catalogue.specs.declared.parts.Held.{Held}
-use Rattle.catalogue.specs.State.{named}
-use Rattle.catalogue.specs.Step.{to_pin}
+use Rattle.catalogue_state.specs.declared.parts.Held.{Held}
+use Rattle.catalogue_state.specs.State.{named}
+use Rattle.catalogue_state.specs.Step.{to_pin}
 use Rattle.catalogue.proofs.Places.{none_changed, lent_changed}
 use Rattle.catalogue.proofs.sessions.pin_held.Goals as goal
 

@@ -1,9 +1,9 @@
 use Rattle.std.proofs.Common.{◌≡◌, ◌∙◌, sym, ap, Some, List, get_or}
 use Rattle.std.specs.Prelude.{position}
-use Rattle.catalogue.specs.declared.parts.Session.{Session}
-use Rattle.catalogue.specs.declared.parts.Held.{Held}
-use Rattle.catalogue.specs.State.{of_who}
-use Rattle.catalogue.specs.Step.{pin_as}
+use Rattle.catalogue_state.specs.declared.parts.Session.{Session}
+use Rattle.catalogue_state.specs.declared.parts.Held.{Held}
+use Rattle.catalogue_state.specs.State.{of_who}
+use Rattle.catalogue_state.specs.Step.{pin_as}
 use Rattle.catalogue.proofs.Places.{none_changed, lent_changed}
 use Rattle.catalogue.proofs.sessions.pin_in_session.Goals as goal
 

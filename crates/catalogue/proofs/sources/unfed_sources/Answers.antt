@@ -2,9 +2,9 @@ use Rattle.std.proofs.Common.{◌≡◌, ◌∙◌, ◌++◌, ◌∷◌, [], ◌
 use Rattle.std.proofs.lemmas.List.{take_more, map_push}
 use Rattle.std.proofs.lemmas.List.Elements.{All-push}
 use Rattle.graph_slots.specs.Slots.{slots}
-use Rattle.catalogue.specs.declared.parts.SourceData.{SourceData}
-use Rattle.catalogue.specs.declared.parts.Source.{Source}
-use Rattle.catalogue.specs.Bound.{unfed}
+use Rattle.catalogue_state.specs.declared.parts.SourceData.{SourceData}
+use Rattle.catalogue_state.specs.declared.parts.Source.{Source}
+use Rattle.catalogue_state.specs.Bound.{unfed}
 use Rattle.catalogue.proofs.sources.unfed_sources.Goals as goal
 
 pub loop-source-preserved : goal.loop-source-preserved

@@ -1,8 +1,8 @@
 use Rattle.std.proofs.Common.{◌≡◌, ◌≤◌, take, map, length}
 use Rattle.std.specs.List.{All}
 use Rattle.graph_slots.specs.Slots.{slots}
-use Rattle.catalogue.specs.declared.parts.SourceData.{SourceData}
-use Rattle.catalogue.specs.Bound.{unfed}
+use Rattle.catalogue_state.specs.declared.parts.SourceData.{SourceData}
+use Rattle.catalogue_state.specs.Bound.{unfed}
 use Rattle.catalogue.proofs.sources.unfed_sources.Given as goal
 
 abbrev pub invariant-loop-source : goal.invariant-loop-source

@@ -22,7 +22,7 @@ loop-replies-init g c = rw (c.new-replies.ensures) (record {
 pub call_alone-requires-clause-calls : goal.call_alone-requires-clause-calls
 call_alone-requires-clause-calls g c κs within =
     let due : next_call c.args.command.now c.loop-replies.actor.own c.loop-replies.replies ≡ Some c.in-Some.ask = rw (← c.as_slice.ensures, ← c.in_ok-ask.ensures) c.in-Some.is in
-    let few = calls_are_few c.args.command.now.form c.loop-replies.replies c.in-Some.ask due in
+    let few = calls_are_few c.args.command.now.form c.loop-replies.actor.own c.loop-replies.replies c.in-Some.ask due in
     let grew = c.loop-replies.invariant.alone.few in
     let room = c.requires.calls in
     omega arith
@@ -30,14 +30,14 @@ call_alone-requires-clause-calls g c κs within =
 pub loop-replies-smaller : goal.loop-replies-smaller
 loop-replies-smaller g c =
     let due : next_call c.args.command.now c.loop-replies.actor.own c.loop-replies.replies ≡ Some c.in-Some.ask = rw (← c.as_slice.ensures, ← c.in_ok-ask.ensures) c.in-Some.is in
-    let few = calls_are_few c.args.command.now.form c.loop-replies.replies c.in-Some.ask due in
+    let few = calls_are_few c.args.command.now.form c.loop-replies.actor.own c.loop-replies.replies c.in-Some.ask due in
     let more : length c.push.new.self ≡ length c.loop-replies.replies + 1 = rw (c.in_ok-push-in-Some-2.ensures.ok) (length-append c.loop-replies.replies _) in
     omega arith
 
 pub loop-replies-preserved : goal.loop-replies-preserved
 loop-replies-preserved g c =
     let due : next_call c.args.command.now c.loop-replies.actor.own c.loop-replies.replies ≡ Some c.in-Some.ask = rw (← c.as_slice.ensures, ← c.in_ok-ask.ensures) c.in-Some.is in
-    let few = calls_are_few c.args.command.now.form c.loop-replies.replies c.in-Some.ask due in
+    let few = calls_are_few c.args.command.now.form c.loop-replies.actor.own c.loop-replies.replies c.in-Some.ask due in
     let same = c.loop-replies.invariant.who in
     let ends = subst (λ (who : ℕ). CallEnds (at_place c.loop-replies.alone c.loop-replies.place c.loop-replies.actor) who c.in-Some.ask c.in_ok-reply.field-0 (at_place c.call_alone.new.alone c.call_alone.new.place c.call_alone.new.actor)) same c.in_ok-reply.ensures.ends in
     let own = subst (λ (who : ℕ). OnlyOwn who 1 c.loop-replies.alone c.call_alone.new.alone) same c.call_alone.ensures.own in
@@ -53,7 +53,7 @@ loop-replies-preserved g c =
 pub returns-in-None-clause-ran : goal.returns-in-None-clause-ran
 returns-in-None-clause-ran g c =
     let due : next_call c.args.command.now c.loop-replies.actor.own c.loop-replies.replies ≡ Some c.in-Some.ask = rw (← c.as_slice.ensures, ← c.in_ok-ask.ensures) c.in-Some.is in
-    let few = calls_are_few c.args.command.now.form c.loop-replies.replies c.in-Some.ask due in
+    let few = calls_are_few c.args.command.now.form c.loop-replies.actor.own c.loop-replies.replies c.in-Some.ask due in
     let same = c.loop-replies.invariant.who in
     let ends = subst (λ (who : ℕ). CallEnds (at_place c.loop-replies.alone c.loop-replies.place c.loop-replies.actor) who c.in-Some.ask c.in_ok-reply.field-0 (at_place c.call_alone.new.alone c.call_alone.new.place c.call_alone.new.actor)) same c.in_ok-reply.ensures.ends in
     going_starved c.args.actor.now.who c.args.command.now c.loop-replies.replies _ _ _ c.in-Some.ask few due c.in_ok-reply.field-0 c.in-None.is ends c.loop-replies.invariant.going
@@ -61,7 +61,7 @@ returns-in-None-clause-ran g c =
 pub returns-in-None-clause-own : goal.returns-in-None-clause-own
 returns-in-None-clause-own g c =
     let due : next_call c.args.command.now c.loop-replies.actor.own c.loop-replies.replies ≡ Some c.in-Some.ask = rw (← c.as_slice.ensures, ← c.in_ok-ask.ensures) c.in-Some.is in
-    let few = calls_are_few c.args.command.now.form c.loop-replies.replies c.in-Some.ask due in
+    let few = calls_are_few c.args.command.now.form c.loop-replies.actor.own c.loop-replies.replies c.in-Some.ask due in
     let same = c.loop-replies.invariant.who in
     let own = subst (λ (who : ℕ). OnlyOwn who 1 c.loop-replies.alone c.call_alone.new.alone) same c.call_alone.ensures.own in
     own_on c.args.actor.now.who (length c.loop-replies.replies) 1 257 _ _ _ (omega arith) c.loop-replies.invariant.alone own
@@ -91,7 +91,7 @@ returns-in_err-ask-clause-stopped g c =
 pub returns-in_err-reply-clause-stopped : goal.returns-in_err-reply-clause-stopped
 returns-in_err-reply-clause-stopped g c =
     let due : next_call c.args.command.now c.loop-replies.actor.own c.loop-replies.replies ≡ Some c.in-Some.ask = rw (← c.as_slice.ensures, ← c.in_ok-ask.ensures) c.in-Some.is in
-    let few = calls_are_few c.args.command.now.form c.loop-replies.replies c.in-Some.ask due in
+    let few = calls_are_few c.args.command.now.form c.loop-replies.actor.own c.loop-replies.replies c.in-Some.ask due in
     let same = c.loop-replies.invariant.who in
     let stops = subst (λ (who : ℕ). CallStops (at_place c.loop-replies.alone c.loop-replies.place c.loop-replies.actor) who c.in-Some.ask (at_place c.call_alone.new.alone c.call_alone.new.place c.call_alone.new.actor)) same c.in_err-reply.ensures.stopped in
     on_err _ (call_stopped c.args.actor.now.who c.args.command.now c.loop-replies.replies _ _ _ c.in-Some.ask few due stops c.loop-replies.invariant.going)
@@ -99,7 +99,7 @@ returns-in_err-reply-clause-stopped g c =
 pub returns-in_err-reply-clause-own : goal.returns-in_err-reply-clause-own
 returns-in_err-reply-clause-own g c =
     let due : next_call c.args.command.now c.loop-replies.actor.own c.loop-replies.replies ≡ Some c.in-Some.ask = rw (← c.as_slice.ensures, ← c.in_ok-ask.ensures) c.in-Some.is in
-    let few = calls_are_few c.args.command.now.form c.loop-replies.replies c.in-Some.ask due in
+    let few = calls_are_few c.args.command.now.form c.loop-replies.actor.own c.loop-replies.replies c.in-Some.ask due in
     let same = c.loop-replies.invariant.who in
     let own = subst (λ (who : ℕ). OnlyOwn who 1 c.loop-replies.alone c.call_alone.new.alone) same c.call_alone.ensures.own in
     own_on c.args.actor.now.who (length c.loop-replies.replies) 1 257 _ _ _ (omega arith) c.loop-replies.invariant.alone own
@@ -107,7 +107,7 @@ returns-in_err-reply-clause-own g c =
 pub returns-in_err-push-in-Some-2-clause-stopped : goal.returns-in_err-push-in-Some-2-clause-stopped
 returns-in_err-push-in-Some-2-clause-stopped g c =
     let due : next_call c.args.command.now c.loop-replies.actor.own c.loop-replies.replies ≡ Some c.in-Some.ask = rw (← c.as_slice.ensures, ← c.in_ok-ask.ensures) c.in-Some.is in
-    let few = calls_are_few c.args.command.now.form c.loop-replies.replies c.in-Some.ask due in
+    let few = calls_are_few c.args.command.now.form c.loop-replies.actor.own c.loop-replies.replies c.in-Some.ask due in
     let same = c.loop-replies.invariant.who in
     let ends = subst (λ (who : ℕ). CallEnds (at_place c.loop-replies.alone c.loop-replies.place c.loop-replies.actor) who c.in-Some.ask c.in_ok-reply.field-0 (at_place c.call_alone.new.alone c.call_alone.new.place c.call_alone.new.actor)) same c.in_ok-reply.ensures.ends in
     let more = length-append c.loop-replies.replies (c.in-Some-2.reply ∷ []) in
@@ -117,7 +117,7 @@ returns-in_err-push-in-Some-2-clause-stopped g c =
 pub returns-in_err-push-in-Some-2-clause-own : goal.returns-in_err-push-in-Some-2-clause-own
 returns-in_err-push-in-Some-2-clause-own g c =
     let due : next_call c.args.command.now c.loop-replies.actor.own c.loop-replies.replies ≡ Some c.in-Some.ask = rw (← c.as_slice.ensures, ← c.in_ok-ask.ensures) c.in-Some.is in
-    let few = calls_are_few c.args.command.now.form c.loop-replies.replies c.in-Some.ask due in
+    let few = calls_are_few c.args.command.now.form c.loop-replies.actor.own c.loop-replies.replies c.in-Some.ask due in
     let same = c.loop-replies.invariant.who in
     let own = subst (λ (who : ℕ). OnlyOwn who 1 c.loop-replies.alone c.call_alone.new.alone) same c.call_alone.ensures.own in
     own_on c.args.actor.now.who (length c.loop-replies.replies) 1 257 _ _ _ (omega arith) c.loop-replies.invariant.alone own

@@ -1,5 +1,5 @@
 use Rattle.std.proofs.Common.{◌≡◌, ◌≤◌, List, IfSome, drop}
-use Rattle.catalogue.specs.declared.parts.SourceData.{SourceData}
+use Rattle.catalogue_state.specs.declared.parts.SourceData.{SourceData}
 use Rattle.pgx_io.specs.Files.{KeepsFiles}
 use Rattle.source_open.specs.Opening.{opened, opened_after}
 use Rattle.source_open.proofs.open.check_sources.Given as goal

@@ -1,6 +1,5 @@
-use Rattle.std.proofs.Common.{◌≡◌, ◌∙◌, ap, sym, subst, None, List}
-use Rattle.catalogue.specs.State.{Name, State, roots, line_of, roots_of, change_first, of_who}
-use Rattle.catalogue.specs.Step.{pin_as}
+use Rattle.std.proofs.Common.{◌≡◌, ◌∙◌, ap, sym, subst, None}
+use Rattle.catalogue_state.specs.State.{State, roots, line_of}
 use Rattle.catalogue.specs.Kept.{MayPublish}
 use Rattle.catalogue.proofs.Limits.{published_kept}
 use Rattle.catalogue.proofs.Apart.{registry_in}
@@ -27,6 +26,6 @@ invariant_of-self-2 c =
     let came = registry_shared m in_.registry.rows c.self.invariant.registry c.self.invariant.kept b may.root in
     let there = registry_in (roots m) b _ (published_roots m.lines m.sessions who name c.args.pin l b may.one) _ came in
     record {
-      kept = rw (c.in_ok-publish.ensures.ok, c.pin_as.ensures, sym may.named) (published_kept m who c.self.invariant.kept name l b may.one may.root free may.room);
+      kept = rw (c.in_ok-publish.ensures.ok, c.pin_as.ensures, sym may.named) (published_kept m who c.self.invariant.kept name l b may.one may.keep may.root free may.room);
       registry = rw (c.in_ok-publish.ensures.ok, c.pin_as.ensures, c.retain_snap.ensures) there;
     }

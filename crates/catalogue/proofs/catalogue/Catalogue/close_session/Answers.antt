@@ -1,6 +1,6 @@
 use Rattle.std.proofs.Common.{◌≡◌, ◌∙◌, sym, Some}
 use Rattle.std.specs.Prelude.{find}
-use Rattle.catalogue.specs.State.{State, of_who, drop_first, roots_of}
+use Rattle.catalogue_state.specs.State.{State, of_who, drop_first, roots_of}
 use Rattle.catalogue.proofs.Limits.{closed_kept}
 use Rattle.catalogue.proofs.Apart.{session_apart, none_dropped}
 use Rattle.catalogue.proofs.catalogue.Catalogue.close_session.Goals as goal

@@ -1,6 +1,6 @@
 use Rattle.std.proofs.Common.{◌≡◌, ◌∙◌, sym, ap, refl, List, ℕ}
-use Rattle.catalogue.specs.declared.reply.Reply.TheVariants.{Columns}
-use Rattle.catalogue.specs.State.{reach}
+use Rattle.catalogue_state.specs.declared.reply.Reply.TheVariants.{Columns}
+use Rattle.catalogue_state.specs.State.{reach}
 use Rattle.catalogue.proofs.catalogue.Catalogue.columns.Goals as goal
 
 pub returns : goal.returns

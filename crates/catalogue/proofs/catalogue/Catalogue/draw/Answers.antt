@@ -1,6 +1,6 @@
 use Rattle.std.proofs.Common.{◌^◌, refl, sym, subst, arith, length}
-use Rattle.catalogue.specs.State.{State, roots, change_first, of_who, roots_of}
-use Rattle.catalogue.specs.Step.{hold_more}
+use Rattle.catalogue_state.specs.State.{State, roots, change_first, of_who, roots_of}
+use Rattle.catalogue_state.specs.Step.{hold_more}
 use Rattle.catalogue.specs.Kept.{MayHold}
 use Rattle.catalogue.specs.Registry.{Comes}
 use Rattle.catalogue.proofs.Limits.{drawn_kept}

@@ -1,7 +1,6 @@
-use Rattle.std.proofs.Common.{◌≡◌, ap, sym, subst}
-use Rattle.catalogue.specs.State.{State, roots, roots_of, change_first, of_who}
-use Rattle.catalogue.specs.declared.parts.Snap.{Snap}
-use Rattle.catalogue.specs.Step.{hold_more}
+use Rattle.std.proofs.Common.{sym, subst}
+use Rattle.catalogue_state.specs.State.{State, roots, roots_of, change_first, of_who}
+use Rattle.catalogue_state.specs.Step.{hold_more}
 use Rattle.catalogue.specs.Kept.{MayPin}
 use Rattle.catalogue.proofs.Limits.{pinned_kept}
 use Rattle.catalogue.proofs.Apart.{registry_in, roots_more}

@@ -1,8 +1,8 @@
-use Rattle.std.proofs.Common.{◌≡◌, ◌∙◌, ◌<◌, ap, sym, subst, Some, None, false, length, arith, [], ◌∷◌}
+use Rattle.std.proofs.Common.{◌≡◌, ◌∙◌, ◌<◌, ap, sym, subst, Some, false, length, arith, rules, [], ◌∷◌}
 use Rattle.std.specs.Prelude.{find, is_some, Contains}
 use Rattle.std.specs.Option.{option_copied}
-use Rattle.catalogue.specs.declared.parts.Line.{Line}
-use Rattle.catalogue.specs.State.{named, session_of, line_of, held_of, roots}
+use Rattle.catalogue_state.specs.declared.parts.Line.{Line}
+use Rattle.catalogue_state.specs.State.{named, session_of, line_of, held_of, roots}
 use Rattle.catalogue.proofs.Numbers.{nothing_found, copied_is_some}
 use Rattle.catalogue.proofs.Coming.{held_root}
 use Rattle.catalogue.proofs.catalogue.Catalogue.line_to_publish.Goals as goal
@@ -22,6 +22,7 @@ returns-clause-may c =
     record {
       named = ap (λ (x : Line). x.name) made;
       one = ap (λ (x : Line). x.snaps) made ∙ sym (ap (λ b. b ∷ []) c.in_ok-share.ensures);
+      keep = search rules;
       root = subst (Contains (roots m)) (sym c.in_ok-share.ensures) root;
       free = nothing_found (line_of m c.args.line.now) free;
       room = room;

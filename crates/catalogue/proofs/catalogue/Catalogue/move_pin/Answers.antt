@@ -1,11 +1,10 @@
-use Rattle.std.proofs.Common.{◌≡◌, ◌∙◌, ap, sym, subst, Some, Option}
-use Rattle.std.specs.Prelude.{option_map, option_and_then, find}
+use Rattle.std.proofs.Common.{◌≡◌, ◌∙◌, ap, sym, subst, Option}
+use Rattle.std.specs.Prelude.{option_map, option_and_then}
 use Rattle.std.proofs.lemmas.Option.{same_Some}
-use Rattle.catalogue.specs.State.{State, roots, roots_of, change_first, of_who, held_of}
-use Rattle.catalogue.specs.declared.parts.Snap.{Snap}
-use Rattle.catalogue.specs.declared.parts.Held.{Held}
-use Rattle.catalogue.specs.declared.parts.Session.{Session}
-use Rattle.catalogue.specs.Step.{move_to}
+use Rattle.catalogue_state.specs.State.{State, roots, roots_of, change_first, of_who, held_of}
+use Rattle.catalogue_state.specs.declared.parts.Held.{Held}
+use Rattle.catalogue_state.specs.declared.parts.Session.{Session}
+use Rattle.catalogue_state.specs.Step.{move_to}
 use Rattle.catalogue.specs.Kept.{MayMove}
 use Rattle.catalogue.proofs.Limits.{moved_kept}
 use Rattle.catalogue.proofs.Pinned.{shared_room, registry_shared, moved_roots, moved_apart}

@@ -1,9 +1,9 @@
 use Rattle.std.proofs.Common.{subst, length, ◌≤◌}
 use Rattle.graph_slots.specs.Slots.{slots}
-use Rattle.catalogue.specs.declared.parts.SourceData.{SourceData}
-use Rattle.catalogue.specs.declared.parts.Source.{Source}
-use Rattle.catalogue.specs.Bound.{unfed}
-use Rattle.catalogue.proofs.Lists.{each_map}
+use Rattle.catalogue_state.specs.declared.parts.SourceData.{SourceData}
+use Rattle.catalogue_state.specs.declared.parts.Source.{Source}
+use Rattle.catalogue_state.specs.Bound.{unfed}
+use Rattle.catalogue_state.proofs.Lists.{each_map}
 use Rattle.catalogue.proofs.catalogue.Catalogue.new.Goals as goal
 
 pub returns-clause-small : goal.returns-clause-small

@@ -1,5 +1,5 @@
 use Rattle.std.proofs.Common.{◌<◌, ◌≡◌, None, length, sym, subst}
-use Rattle.catalogue.specs.State.{State, session_of}
+use Rattle.catalogue_state.specs.State.{State, session_of}
 use Rattle.catalogue.proofs.Limits.{one_more_kept}
 use Rattle.catalogue.proofs.Apart.{same_roots}
 use Rattle.catalogue.proofs.catalogue.Catalogue.open_session.Goals as goal

@@ -1,12 +1,10 @@
 use Rattle.std.proofs.Common.{◌≡◌, ◌∙◌, ◌<◌, ap, sym, subst, Some, false, length, arith}
 use Rattle.std.specs.Prelude.{is_some, Contains}
 use Rattle.std.specs.Option.{option_copied}
-use Rattle.catalogue.specs.declared.parts.Snap.{Snap}
-use Rattle.catalogue.specs.declared.parts.Held.{Held}
-use Rattle.catalogue.specs.State.{latest, session_of, line_of, held_of, roots}
-use Rattle.catalogue.specs.Kept.{MayPin}
+use Rattle.catalogue_state.specs.declared.parts.Held.{Held}
+use Rattle.catalogue_state.specs.State.{latest, session_of, line_of, held_of, roots}
 use Rattle.catalogue.proofs.Numbers.{not_held, nothing_found}
-use Rattle.catalogue.proofs.Latest.{latest_root}
+use Rattle.catalogue_state.proofs.Latest.{latest_root}
 use Rattle.catalogue.proofs.catalogue.Catalogue.pin_to_hold.Goals as goal
 
 pub returns-in_ok-pin-in-Some-last-clause-may : goal.returns-in_ok-pin-in-Some-last-clause-may

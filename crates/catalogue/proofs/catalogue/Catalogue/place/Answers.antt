@@ -1,13 +1,15 @@
 use Rattle.std.proofs.Common.{◌≡◌, ◌∙◌, ap, refl, sym, subst, Some, [], length}
 use Rattle.std.specs.List.{range_with_len}
 use Rattle.std.proofs.lemmas.Result.{IfOk-weaker}
-use Rattle.catalogue.specs.declared.ask.Ask.TheVariants.{Place}
-use Rattle.catalogue.specs.declared.parts.Held.{Held}
-use Rattle.catalogue.specs.State.{roots}
+use Rattle.catalogue_state.specs.declared.ask.Ask.TheVariants.{Place}
+use Rattle.catalogue_state.specs.declared.reply.Reply.TheVariants.{Sid}
+use Rattle.catalogue_state.specs.declared.parts.Snap.{Snap}
+use Rattle.catalogue_state.specs.declared.parts.Held.{Held}
+use Rattle.catalogue_state.specs.State.{roots}
 use Rattle.catalogue.specs.Kept.{MayHold}
 use Rattle.catalogue.specs.Registry.{Comes}
-use Rattle.catalogue.specs.Step.{drawn}
-use Rattle.catalogue.proofs.Drawing.{drawn_served}
+use Rattle.catalogue_state.specs.Step.{drawn, private_graph}
+use Rattle.catalogue.proofs.Drawing.{drawn_served, refused_served}
 use Rattle.catalogue.proofs.Coming.{all_new, parts_count}
 use Rattle.catalogue.proofs.catalogue.Catalogue.place.Goals as goal
 
@@ -41,3 +43,11 @@ returns-in_ok-held-in-Ok-clause-ok c =
     (λ r told. drawn_served m who name (Some c.args.source.now) c.in-Ok.snap _ c.in-Ok.ensures.may (Place name c.args.source.now c.args.front) h c.draw.new.self r c.in_ok-held-in-Ok.ensures c.in-Ok.ensures.tests
     (λ s k. refl) told.0 (told.1 ∙ ap (drawn m who h) count))
     c.draw.ensures.ok
+
+pub returns-in-Err-clause-ok : goal.returns-in-Err-clause-ok
+returns-in-Err-clause-ok c =
+    let m = c.args.self.now in
+    let who = c.args.who in
+    let name = c.args.name.now in
+    refused_served {X = Snap} m who (Place name c.args.source.now c.args.front) (λ b. (Sid b.sid, drawn m who (private_graph name (Some c.args.source.now) b) (length b.columns))) c.in-Err.fault c.refused.result (λ r. refl)
+    c.in-Err.ensures.tests c.refused.ensures

@@ -2,8 +2,8 @@ use Rattle.std.proofs.Common.{◌≡◌, ◌∙◌, ap, length, arith, subst, sy
 use Rattle.std.specs.Prelude.{Contains}
 use Rattle.std.proofs.lemmas.List.FromFn.{length-range_with_len}
 use Rattle.graph_slots.specs.Slots.{slots}
-use Rattle.catalogue.specs.State.{State}
-use Rattle.catalogue.specs.declared.parts.SourceData.{SourceData}
+use Rattle.catalogue_state.specs.State.{State}
+use Rattle.catalogue_state.specs.declared.parts.SourceData.{SourceData}
 use Rattle.catalogue.proofs.Numbers.{placed_first}
 use Rattle.catalogue.proofs.catalogue.Catalogue.placed.Goals as goal
 

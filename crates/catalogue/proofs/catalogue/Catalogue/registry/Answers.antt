@@ -1,6 +1,6 @@
 use Rattle.std.proofs.Common.{◌∙◌, ap}
 use Rattle.column_reclaim.specs.Registry.{ids_of, count_of}
-use Rattle.catalogue.specs.State.{State}
+use Rattle.catalogue_state.specs.State.{State}
 use Rattle.catalogue.specs.Registry.{Rows}
 use Rattle.catalogue.proofs.Keys.{keys_are_reach}
 use Rattle.catalogue.proofs.catalogue.Catalogue.registry.Goals as goal

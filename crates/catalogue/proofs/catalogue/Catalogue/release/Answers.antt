@@ -1,6 +1,6 @@
 use Rattle.std.proofs.Common.{◌∙◌, sym}
-use Rattle.catalogue.specs.State.{State, of_who, change_first, roots_of}
-use Rattle.catalogue.specs.Step.{let_go}
+use Rattle.catalogue_state.specs.State.{State, of_who, change_first, roots_of}
+use Rattle.catalogue_state.specs.Step.{let_go}
 use Rattle.catalogue.proofs.Limits.{released_kept}
 use Rattle.catalogue.proofs.Apart.{graph_apart, none_let_go}
 use Rattle.catalogue.proofs.catalogue.Catalogue.release.Goals as goal

@@ -1,8 +1,8 @@
 use Rattle.std.proofs.Common.{◌≡◌, ◌∙◌, ap, sym, subst, Some}
 use Rattle.std.specs.Prelude.{find, Contains}
 use Rattle.std.specs.Option.{option_copied}
-use Rattle.catalogue.specs.State.{named, snap_at, session_of, line_of, held_of, roots}
-use Rattle.catalogue.proofs.Latest.{target_root}
+use Rattle.catalogue_state.specs.State.{named, snap_at, session_of, line_of, held_of, roots}
+use Rattle.catalogue_state.proofs.Latest.{target_root}
 use Rattle.catalogue.proofs.catalogue.Catalogue.snap_to_check_out.Goals as goal
 
 pub returns-in_ok-share-in-Some-snap_asked-clause-may : goal.returns-in_ok-share-in-Some-snap_asked-clause-may

@@ -1,8 +1,8 @@
 use Rattle.std.proofs.Common.{◌≡◌, ◌∙◌, ◌<◌, ap, sym, Some, false, length, arith}
 use Rattle.std.specs.Prelude.{is_some}
 use Rattle.std.specs.Option.{option_copied}
-use Rattle.catalogue.specs.State.{from_source, session_of, held_of}
-use Rattle.catalogue.specs.Desk.{of_find}
+use Rattle.catalogue_state.specs.State.{from_source, session_of, held_of}
+use Rattle.catalogue_state.proofs.Lists.{of_find}
 use Rattle.catalogue.proofs.Numbers.{may_place, not_held}
 use Rattle.catalogue.proofs.Coming.{placed_columns}
 use Rattle.catalogue.proofs.catalogue.Catalogue.snap_to_place.Goals as goal

@@ -1,6 +1,6 @@
 use Rattle.std.proofs.Common.{◌≡◌, ◌∙◌, sym, Some}
 use Rattle.std.specs.Prelude.{find}
-use Rattle.catalogue.specs.State.{State, from_line, drop_first, roots_of}
+use Rattle.catalogue_state.specs.State.{State, from_line, drop_first, roots_of}
 use Rattle.catalogue.proofs.Limits.{unpublished_kept}
 use Rattle.catalogue.proofs.Apart.{none_dropped}
 use Rattle.catalogue.proofs.Pinned.{line_apart}

@@ -1,5 +1,5 @@
 use Rattle.std.proofs.Common.{◌≡◌, take, map}
-use Rattle.catalogue.specs.Step.{line_info}
+use Rattle.catalogue_state.specs.Step.{line_info}
 use Rattle.catalogue.proofs.lines.Lines.infos.Given as goal
 
 abbrev pub invariant-loop-line : goal.invariant-loop-line

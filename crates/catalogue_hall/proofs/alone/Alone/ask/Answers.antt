@@ -1,15 +1,17 @@
-use Rattle.std.proofs.Common.{◌≡◌, ◌∙◌, List, ◌++◌, ◌∷◌, [], length, ◌<◌, sym, ap, subst}
+use Rattle.std.proofs.Common.{◌≡◌, ◌∙◌, List, ◌++◌, ◌∷◌, [], length, ◌<◌, sym, ap, subst, map}
 use Rattle.turn_hall.specs.Replay.{replay, entry}
 use Rattle.turn_hall.proofs.Grown.{grown_state}
-use Rattle.catalogue.specs.declared.reply.Reply.{Reply}
-use Rattle.catalogue.specs.declared.call.Gift.{Gift}
-use Rattle.catalogue.specs.State.{State}
-use Rattle.catalogue.specs.Step.{step}
-use Rattle.catalogue.specs.Bound.{opening, IsReady}
-use Rattle.catalogue.specs.Gift.{gift_of}
+use Rattle.catalogue_state.specs.declared.reply.Reply.{Reply}
+use Rattle.catalogue_state.specs.declared.call.Gift.{Gift}
+use Rattle.catalogue_state.specs.State.{State, holds}
+use Rattle.catalogue_state.specs.Step.{step}
+use Rattle.catalogue_state.specs.Bound.{opening, IsReady}
+use Rattle.catalogue_state.specs.Gift.{gift_of}
 use Rattle.catalogue.specs.Kept.{IsKept as IsSound}
-use Rattle.catalogue.specs.Desk.{calls_get_ready}
-use Rattle.catalogue_hall.specs.History.{History, held_by}
+use Rattle.catalogue_state.proofs.Bounds.{calls_get_ready}
+use Rattle.catalogue_hall.specs.History.{History, held_by, named_of}
+use Rattle.catalogue_hall.specs.Building.{IsMadeOf}
+use Rattle.catalogue_hall.proofs.Making.{made_for}
 use Rattle.catalogue_hall.specs.declared.effect.Effect.{Effect}
 use Rattle.catalogue_hall.specs.declared.held.Named.{Named}
 use Rattle.catalogue_hall.specs.Told.{effect_of, held_by_reply, held_after}
@@ -26,7 +28,13 @@ pub call-requires-clause-ready : goal.call-requires-clause-ready
 call-requires-clause-ready g c κs within =
     let few = subst (λ (h : History). length h.book < 33554432) (sym c.self.view_is) c.requires.calls in
     let m = c.self.inside.calls.desk in
-    subst IsReady c.sound.ensures.state (calls_get_ready (opening m) c.self.inside.calls.book c.sound.ensures.opening c.self.invariant.small few)
+    let held = subst (λ (h : History). c.args.held.now ≡ held_by h c.args.who) (sym c.self.view_is) c.requires.held in
+    let now : holds (replay step (opening m) c.self.inside.calls.book) c.args.who ≡ holds m c.args.who = ap (λ n. holds n c.args.who) c.sound.ensures.state in
+    let same : c.args.held.now ≡ map named_of (holds m c.args.who) = held ∙ ap (map named_of) now in
+    record {
+      numbers = subst IsReady c.sound.ensures.state (calls_get_ready (opening m) c.self.inside.calls.book c.sound.ensures.opening c.self.invariant.small few);
+      made = made_for (holds m c.args.who) c.args.ask c.in_ok-made.made (subst (λ l. IsMadeOf l c.args.ask c.in_ok-made.made) (c.in_ok-reserve.ensures.items ∙ (c.held.view_is ∙ same)) c.in_ok-made.ensures);
+    }
 
 pub returns-clause-held : goal.returns-clause-held
 returns-clause-held g c =

@@ -1,5 +1,0 @@
-use Rattle.catalogue.proofs.Refusals.{refusal_stays}
-use Rattle.catalogue.proofs.laws.refusals_leave_the_state.Goals as goal
-
-pub returns : goal.returns
-returns c = refusal_stays

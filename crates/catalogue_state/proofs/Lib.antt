@@ -1,0 +1,16 @@
+pub mod Lists
+pub mod Latest
+pub mod Counts
+pub mod Roots
+pub mod Keeping
+pub mod Deriving
+pub mod Small
+pub mod Bounds
+pub mod Others
+pub mod Own
+pub mod Ready
+pub mod Refusals
+pub mod Prefixes
+pub mod Ids
+pub mod Rising
+pub mod Names
